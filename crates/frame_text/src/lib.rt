@@ -1,0 +1,2 @@
+//! How frames are spelled.
+#![tactic(auto)]

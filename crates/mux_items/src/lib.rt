@@ -1,0 +1,6 @@
+//! What one end of a multiplexing stream is told and does, as a list of items, and what follows from such a list.
+#![tactic(auto)]
+
+mod channel;
+
+pub use channel::{ChannelKey, ChannelView, MuxEvent, Phase, Tally};

@@ -1,0 +1,8 @@
+//! Two ends and the bytes between them: the steps that are made, the run of such steps, and what holds of every run.
+#![tactic(auto)]
+
+mod answers;
+mod steps;
+
+pub use answers::{DuoAnswer, EndEvent, EventList, Reply};
+pub use steps::{Call, Side, Step, StepList};

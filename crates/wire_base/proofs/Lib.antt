@@ -1,0 +1,4 @@
+pub mod Finds
+pub mod Utf8
+pub mod Back
+pub mod Moved

@@ -1,0 +1,11 @@
+pub mod Tree
+pub mod Codes
+pub mod View
+pub mod Falls
+pub mod Find
+pub mod Whole
+pub mod Head
+pub mod Causes
+pub mod Streams
+pub mod Memory
+pub mod Numbers

@@ -1,0 +1,40 @@
+ghost use Rattle.std.specs.Prelude.{◌≡◌, IfOk};
+
+use crate::out_of_memory::OutOfMemory;
+use std::alloc::Global;
+use std::marker::Model;
+
+/// Bytes.
+#[derive(Debug, Drop)]
+pub struct Blob {
+    inner: Vec<u8>,
+}
+
+impl Model for Blob {
+    ghost use Rattle.std.specs.Prelude.{List, ℕ};
+
+    ghost Value = { List ℕ };
+
+    ghost view = { λ b. b.inner.items };
+}
+
+impl Blob {
+    pub fn from_bytes(alloc: Global, bytes: &[u8]) -> Result<Blob, OutOfMemory>
+        ensures { IfOk result (λ b. b ≡ bytes.now) }
+    {
+        let inner = Vec::from_slice(alloc, bytes)?;
+        Ok(Blob { inner })
+    }
+
+    pub fn as_bytes(&self) -> &[u8]
+        ensures { result.now ≡ self.now }
+    {
+        self.inner.as_slice()
+    }
+
+    pub fn copy(&self, alloc: Global) -> Result<Blob, OutOfMemory>
+        ensures { IfOk result (λ b. b ≡ self.now) }
+    {
+        Blob::from_bytes(alloc, self.as_bytes())
+    }
+}

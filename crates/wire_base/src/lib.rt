@@ -1,0 +1,34 @@
+//! Types of values, messages' texts and frames, token heads, and the sources and sinks of bytes.
+#![tactic(auto)]
+
+mod blob;
+mod datum;
+mod frame;
+mod heads;
+mod in_memory;
+mod out_of_memory;
+mod place;
+mod reason;
+mod refusal;
+mod standard;
+mod state;
+mod streams;
+mod text;
+mod token;
+mod whole;
+
+pub use blob::Blob;
+pub use datum::{Datum, DatumList, Node, PairList};
+pub use frame::{Code, Frame, FrameStep, Origin, Payload, Version};
+pub use heads::head;
+pub use in_memory::{Calls, MemSink, MemSource};
+pub use out_of_memory::OutOfMemory;
+pub use place::Place;
+pub use reason::Reason;
+pub use refusal::Refusal;
+pub use standard::{StdSink, StdSource};
+pub use state::{Cause, EndState};
+pub use streams::{Failed, Link, Sink, Source};
+pub use text::{Id, Text, TextFault};
+pub use token::{HeadStep, TokenHead};
+pub use whole::Whole;
