@@ -5,6 +5,4 @@ mod channel;
 mod party;
 
 pub use channel::{ChannelKey, ChannelView, MuxEvent, Phase, Tally};
-    channels_are_apart, counts_are_bounded, sent_is_emitted, taken_is_content, window_is_kept,
-};
 pub use party::Party;
