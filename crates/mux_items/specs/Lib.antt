@@ -5,3 +5,4 @@ pub mod Kept
 pub mod Due
 pub mod Refusals
 pub mod Applying
+pub mod Views

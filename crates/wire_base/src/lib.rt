@@ -3,6 +3,7 @@
 
 mod blob;
 mod datum;
+mod fault;
 mod frame;
 mod heads;
 mod in_memory;
@@ -19,6 +20,7 @@ mod whole;
 
 pub use blob::Blob;
 pub use datum::{Datum, DatumList, Node, PairList};
+pub use fault::CallFault;
 pub use frame::{Code, Frame, FrameStep, Origin, Payload, Version};
 pub use heads::head;
 pub use in_memory::{Calls, MemSink, MemSource};
