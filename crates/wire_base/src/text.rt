@@ -6,9 +6,12 @@ use std::alloc::Global;
 use std::marker::Model;
 use std::str;
 
-#[derive(Clone, Copy, Debug, PartialEq, Eq)]
+/// Why bytes are made no text.
+#[derive(Clone, Copy, Debug, PartialEq, Eq, thiserror::Error)]
 pub enum TextFault {
+    #[error("the bytes are not UTF-8")]
     BadUtf8,
+    #[error("out of memory")]
     OutOfMemory,
 }
 
@@ -77,8 +80,8 @@ impl PartialEq for Text {
     }
 }
 
-/// A number or a name.
-#[derive(Debug, Drop)]
+/// What names a request: a number or a text.
+#[derive(Debug, Drop, PartialEq)]
 pub enum Id {
     Number(i64),
     Name(Text),
