@@ -2,3 +2,4 @@ pub mod Finds
 pub mod Utf8
 pub mod Back
 pub mod Moved
+pub mod HeadLemmas
