@@ -3,3 +3,4 @@ pub mod Utf8
 pub mod Back
 pub mod Moved
 pub mod HeadLemmas
+pub mod ShortestLemmas
