@@ -3,6 +3,7 @@ use Rattle.std.proofs.Common.{◌≡◌, ℕ, suc, ◌+◌, ◌-◌, ◌^◌, �
 use Rattle.std.specs.Prelude.{ℤ, pos, negsuc}
 use Rattle.std.specs.Int.{Width, w8, w16, w32, w64, to_be_bytes, from_be_bytes, cast_signed, cast_unsigned}
 use Rattle.std.proofs.Math.Facts.{to_z-neg}
+use Rattle.std.proofs.lemmas.Int.{ints}
 use Rattle.std.proofs.lemmas.Nat.{from_be_bytes-to_be_bytes_2, from_be_bytes-to_be_bytes_4, from_be_bytes-to_be_bytes_8}
 use Rattle.std.proofs.lemmas.Bool.{cases_lt, le-ltb, lt-ltb}
 use Rattle.wire_base.specs.declared.token.TokenHead.{TokenHead}
@@ -112,3 +113,53 @@ is_map n lt = map-cases (λ s. IsHead (token.Map n) s) n
     (λ lt. grind (arith, le-ltb, lt-ltb))
     (after_16 0xde (λ m. token.Map m) n (λ s. refl))
     (after_32 0xdf (λ m. token.Map m) n (λ s. refl) lt)
+
+is_whole : (z : ℤ) → IsWhole z → IsHead (token.Whole z) (whole_text z)
+unfolding whole_text
+is_whole (pos n) range = is_unsigned n (omega (arith, ints, range.1))
+is_whole (negsuc k) range = is_negative k (omega (arith, ints, range.0))
+
+pub head_of-unsigned_text : (n : ℕ) (rest : List ℕ) → n < 2 ^ 64 → head_of (unsigned_text n ++ rest) ≡ Got (token.Whole (pos n)) (length (unsigned_text n))
+head_of-unsigned_text n rest lt = head_stays (unsigned_text n) rest _ _ (is_unsigned n lt)
+
+pub head_of-whole_text : (z : ℤ) (rest : List ℕ) → IsWhole z → head_of (whole_text z ++ rest) ≡ Got (token.Whole z) (length (whole_text z))
+head_of-whole_text z rest range = head_stays (whole_text z) rest _ _ (is_whole z range)
+
+pub head_of-str_head : (n : ℕ) (rest : List ℕ) → n < 2 ^ 32 → head_of (str_head n ++ rest) ≡ Got (token.Str n) (length (str_head n))
+head_of-str_head n rest lt = head_stays (str_head n) rest _ _ (is_str n lt)
+
+pub head_of-bin_head : (n : ℕ) (rest : List ℕ) → n < 2 ^ 32 → head_of (bin_head n ++ rest) ≡ Got (token.Bin n) (length (bin_head n))
+head_of-bin_head n rest lt = head_stays (bin_head n) rest _ _ (is_bin n lt)
+
+pub head_of-array_head : (n : ℕ) (rest : List ℕ) → n < 2 ^ 32 → head_of (array_head n ++ rest) ≡ Got (token.Array n) (length (array_head n))
+head_of-array_head n rest lt = head_stays (array_head n) rest _ _ (is_array n lt)
+
+pub head_of-map_head : (n : ℕ) (rest : List ℕ) → n < 2 ^ 32 → head_of (map_head n ++ rest) ≡ Got (token.Map n) (length (map_head n))
+head_of-map_head n rest lt = head_stays (map_head n) rest _ _ (is_map n lt)
+
+-- a byte at least, and at most so many
+abbrev pub HasUpTo : ℕ → List ℕ → Type 0
+HasUpTo most s = (0 < length s) × (length s ≤ most)
+
+pub length-unsigned_text : (n : ℕ) → HasUpTo 9 (unsigned_text n)
+length-unsigned_text n = unsigned-cases (HasUpTo 9) n (λ _. (omega arith, omega arith)) (λ _. (omega arith, omega arith)) (λ _. (omega arith, omega arith)) (λ _. (omega arith, omega arith)) (omega arith, omega arith)
+
+length-negative_text : (k : ℕ) → HasUpTo 9 (negative_text k)
+length-negative_text k = negative-cases (HasUpTo 9) k (λ _. (omega arith, omega arith)) (λ _. (omega arith, omega arith)) (λ _. (omega arith, omega arith)) (λ _. (omega arith, omega arith)) (omega arith, omega arith)
+
+pub length-whole_text : (z : ℤ) → HasUpTo 9 (whole_text z)
+unfolding whole_text
+length-whole_text (pos n) = length-unsigned_text n
+length-whole_text (negsuc k) = length-negative_text k
+
+pub length-str_head : (n : ℕ) → HasUpTo 5 (str_head n)
+length-str_head n = str-cases (HasUpTo 5) n (λ _. (omega arith, omega arith)) (λ _. (omega arith, omega arith)) (λ _. (omega arith, omega arith)) (omega arith, omega arith)
+
+pub length-bin_head : (n : ℕ) → HasUpTo 5 (bin_head n)
+length-bin_head n = bin-cases (HasUpTo 5) n (λ _. (omega arith, omega arith)) (λ _. (omega arith, omega arith)) (omega arith, omega arith)
+
+pub length-array_head : (n : ℕ) → HasUpTo 5 (array_head n)
+length-array_head n = array-cases (HasUpTo 5) n (λ _. (omega arith, omega arith)) (λ _. (omega arith, omega arith)) (omega arith, omega arith)
+
+pub length-map_head : (n : ℕ) → HasUpTo 5 (map_head n)
+length-map_head n = map-cases (HasUpTo 5) n (λ _. (omega arith, omega arith)) (λ _. (omega arith, omega arith)) (omega arith, omega arith)
