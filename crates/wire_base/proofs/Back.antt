@@ -1,6 +1,6 @@
 -- A list of pairs is what it was made of.
 use Rattle.std.proofs.Common.{◌≡◌, ℕ, List, [], ◌∷◌, refl, ap}
-use Rattle.wire_base.specs.Tree.{Tree, pairs_of, pair_list_of, trees_of, list_of}
+use Rattle.wire_base.specs.Tree.{Tree, pairs_of, pair_list_of}
 
 pub pair_list_of-pairs_of : (ps : List (List ℕ × Tree)) → pair_list_of (pairs_of ps) ≡ ps
 pair_list_of-pairs_of [] = refl

@@ -1,7 +1,7 @@
 -- What a head is, whatever stands behind it.
-use Rattle.std.proofs.Common.{◌≡◌, ℕ, suc, ◌+◌, ◌≤◌, ◌<◌, ◌⊎◌, inl, inr, List, [], ◌∷◌, ◌++◌, length, take, refl, sym, ap, ◌∙◌, arith, length-append, add-one}
+use Rattle.std.proofs.Common.{◌≡◌, ℕ, suc, ◌+◌, ◌≤◌, ◌<◌, inl, inr, List, [], ◌∷◌, ◌++◌, length, take, refl, sym, ap, ◌∙◌, arith, length-append, add-one}
 use Rattle.std.specs.Prelude.{pos}
-use Rattle.std.specs.Int.{Width, w8, w16, w32, w64, w128, byte_len, from_be_bytes, cast_signed}
+use Rattle.std.specs.Int.{Width, byte_len, from_be_bytes, cast_signed}
 use Rattle.std.proofs.lemmas.Bool.{cases_lt, le-ltb, lt-ltb}
 use Rattle.std.proofs.lemmas.List.{take-take, take-append-le, length-take}
 use Rattle.wire_base.specs.declared.reason.Reason.{Reason}
@@ -32,15 +32,15 @@ module _ (w : Width) (f : ℕ → TokenHead) where
   -- a number that was read was there
   numbered_there : (rest : List ℕ) (h : TokenHead) (n : ℕ) → numbered w f rest ≡ Got h n → (byte_len w ≤ length rest) × (n ≡ byte_len w + 1)
   numbered_there rest h n e = elim (cases_lt (length rest) (byte_len w)) [
-      | inl lt ↦ let short = numbered_short rest lt in absurd (cc)
-      | inr le ↦ let got = numbered_got rest le in (le, cc)
-    ]
+    | inl lt ↦ let short = numbered_short rest lt in absurd (cc)
+    | inr le ↦ let got = numbered_got rest le in (le, cc)
+  ]
 
   numbered_not_refused : (rest : List ℕ) (r : Reason) → numbered w f rest ≡ Refused r → ⊥
   numbered_not_refused rest r e = elim (cases_lt (length rest) (byte_len w)) [
-      | inl lt ↦ let short = numbered_short rest lt in cc
-      | inr le ↦ let got = numbered_got rest le in cc
-    ]
+    | inl lt ↦ let short = numbered_short rest lt in cc
+    | inr le ↦ let got = numbered_got rest le in cc
+  ]
 
   numbered-append : (rest more : List ℕ) → byte_len w ≤ length rest → numbered w f (rest ++ more) ≡ numbered w f rest
   numbered-append rest more le =
@@ -73,12 +73,17 @@ head_stays (b ∷ rest) more h n e = by_kind (λ read. read rest ≡ Got h n →
     (kind_of b) e
 
 -- a refusal is by the first byte, whatever follows
-pub refused_stays : (b : ℕ) (rest more : List ℕ) (r : Reason) → head_of (b ∷ rest) ≡ Refused r → head_of (b ∷ more) ≡ Refused r
-refused_stays b rest more r e = by_kind (λ read. read rest ≡ Refused r → read more ≡ Refused r)
+pub refused_first : (b : ℕ) (rest more : List ℕ) (r : Reason) → head_of (b ∷ rest) ≡ Refused r → head_of (b ∷ more) ≡ Refused r
+refused_first b rest more r e = by_kind (λ read. read rest ≡ Refused r → read more ≡ Refused r)
     (λ g e. absurd (cc))
     (λ w f e. absurd (numbered_not_refused w f rest r e))
     (λ s e. e)
     (kind_of b) e
+
+-- what follows doesn't change a refusal
+pub refused_stays : (bytes more : List ℕ) (r : Reason) → head_of bytes ≡ Refused r → head_of (bytes ++ more) ≡ Refused r
+refused_stays [] more r e = absurd (cc)
+refused_stays (b ∷ rest) more r e = refused_first b rest (rest ++ more) r e
 
 -- a head's own bytes are enough
 pub head_front : (bytes : List ℕ) (h : TokenHead) (n : ℕ) → head_of bytes ≡ Got h n → head_of (take n bytes) ≡ Got h n
@@ -86,8 +91,8 @@ head_front [] h n e = absurd (cc)
 head_front (b ∷ rest) h n e = by_kind (λ read. (front : List ℕ → HeadStep) → ((s : List ℕ) → front (b ∷ s) ≡ read s) → read rest ≡ Got h n → front (take n (b ∷ rest)) ≡ Got h n)
     (λ g front is e. let is_1 : n ≡ 1 = cc in rw (is_1, is (take 0 rest)) (cc))
     (λ w f front is e. let there = numbered_there w f rest h n e in
-        let taken : take n (b ∷ rest) ≡ b ∷ take (byte_len w) rest = rw (there.1, add-one (byte_len w)) refl in
-        rw taken (is (take (byte_len w) rest) ∙ (numbered-take w f rest there.0 ∙ e)))
+    let taken : take n (b ∷ rest) ≡ b ∷ take (byte_len w) rest = rw (there.1, add-one (byte_len w)) refl in
+    rw taken (is (take (byte_len w) rest) ∙ (numbered-take w f rest there.0 ∙ e)))
     (λ r front is e. absurd (cc))
     (kind_of b) head_of (λ s. refl) e
 

@@ -4,3 +4,4 @@ pub mod Back
 pub mod Moved
 pub mod HeadLemmas
 pub mod ShortestLemmas
+pub mod AppendsLemmas

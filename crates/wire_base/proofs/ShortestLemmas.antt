@@ -1,7 +1,7 @@
 -- A shortest head is a head, whatever follows it, of 1 to 9 bytes.
-use Rattle.std.proofs.Common.{◌≡◌, ℕ, suc, ◌+◌, ◌-◌, ◌^◌, ◌≤◌, ◌<◌, ◌⊎◌, inl, inr, cond, ltb, List, [], ◌∷◌, ◌++◌, length, refl, ap, ◌∙◌, arith}
+use Rattle.std.proofs.Common.{◌≡◌, ℕ, suc, ◌+◌, ◌-◌, ◌^◌, ◌≤◌, ◌<◌, inl, inr, cond, ltb, List, [], ◌∷◌, ◌++◌, length, refl, ap, ◌∙◌, arith}
 use Rattle.std.specs.Prelude.{ℤ, pos, negsuc}
-use Rattle.std.specs.Int.{Width, w8, w16, w32, w64, to_be_bytes, from_be_bytes, cast_signed, cast_unsigned}
+use Rattle.std.specs.Int.{w8, w16, w32, w64, to_be_bytes, cast_signed, cast_unsigned}
 use Rattle.std.proofs.Math.Facts.{to_z-neg}
 use Rattle.std.proofs.lemmas.Int.{ints}
 use Rattle.std.proofs.lemmas.Nat.{from_be_bytes-to_be_bytes_2, from_be_bytes-to_be_bytes_4, from_be_bytes-to_be_bytes_8}
@@ -12,13 +12,13 @@ use Rattle.wire_base.specs.declared.token.HeadStep.TheVariants.{Got}
 use Rattle.wire_base.specs.Head.{head_of, lettered, numbered}
 use Rattle.wire_base.specs.Shortest.{unsigned_text, negative_text, whole_text, str_head, bin_head, array_head, map_head}
 use Rattle.wire_base.specs.Whole.{IsWhole}
-use Rattle.wire_base.proofs.HeadLemmas.{head_stays, head_within}
+use Rattle.wire_base.proofs.HeadLemmas.{head_stays}
 
 choice : (P : List ℕ → Type 0) (n limit : ℕ) (x y : List ℕ) → (n < limit → P x) → (limit ≤ n → P y) → P (cond (ltb n limit) x y)
 choice P n limit x y below above = elim (cases_lt n limit) [
-    | inl lt ↦ rw (lt-ltb n limit lt) (below lt)
-    | inr le ↦ rw (le-ltb n limit le) (above le)
-  ]
+  | inl lt ↦ rw (lt-ltb n limit lt) (below lt)
+  | inr le ↦ rw (le-ltb n limit le) (above le)
+]
 
 -- what holds of each form holds of the shortest
 unsigned-cases : (P : List ℕ → Type 0) (n : ℕ) → (n < 0x80 → P (n ∷ [])) → (n < 0x100 → P (0xcc ∷ n ∷ [])) → (n < 0x10000 → P (0xcd ∷ to_be_bytes w16 n)) → (n < 0x100000000 → P (0xce ∷ to_be_bytes w32 n)) → P (0xcf ∷ to_be_bytes w64 n) → P (unsigned_text n)
@@ -163,3 +163,5 @@ length-array_head n = array-cases (HasUpTo 5) n (λ _. (omega arith, omega arith
 
 pub length-map_head : (n : ℕ) → HasUpTo 5 (map_head n)
 length-map_head n = map-cases (HasUpTo 5) n (λ _. (omega arith, omega arith)) (λ _. (omega arith, omega arith)) (omega arith, omega arith)
+
+pub ruleset shortest = (head_of-unsigned_text, head_of-whole_text, head_of-str_head, head_of-bin_head, head_of-array_head, head_of-map_head)

@@ -1,5 +1,5 @@
 -- The shortest heads of tokens, of those that the MessagePack specification has in "Formats".
-use Rattle.std.specs.Prelude.{ℕ, ◌+◌, ◌^◌, List, [], ◌∷◌, ℤ, pos, negsuc, nat_lt, if◌then◌else◌}
+use Rattle.std.specs.Prelude.{ℕ, ◌+◌, List, [], ◌∷◌, ℤ, pos, negsuc, nat_lt, if◌then◌else◌}
 use Rattle.std.specs.Int.{w8, w16, w32, w64, cast_unsigned, to_be_bytes}
 
 -- the token of a number that isn't negative, below 2^64

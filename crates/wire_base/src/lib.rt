@@ -6,6 +6,7 @@ mod datum;
 mod frame;
 mod heads;
 mod in_memory;
+mod laws;
 mod out_of_memory;
 mod place;
 mod reason;
@@ -23,11 +24,14 @@ pub use datum::{Datum, DatumList, Node, PairList};
 pub use frame::{Code, Frame, FrameStep, Origin, Payload, Version};
 pub use heads::head;
 pub use in_memory::{Calls, MemSink, MemSource};
+pub use laws::{heads_stay, shortest_heads_are_heads};
 pub use out_of_memory::OutOfMemory;
 pub use place::Place;
 pub use reason::Reason;
 pub use refusal::Refusal;
-pub use shortest::{push_array_head, push_bin_head, push_map_head, push_str_head, push_unsigned, push_whole};
+pub use shortest::{
+    push_array_head, push_bin_head, push_map_head, push_str_head, push_unsigned, push_whole,
+};
 pub use standard::{StdSink, StdSource};
 pub use state::{Cause, EndState};
 pub use streams::{Failed, Link, Sink, Source};
