@@ -14,6 +14,7 @@ use Rattle.wire_base.specs.Shortest.{unsigned_text, negative_text, whole_text, s
 use Rattle.wire_base.specs.Whole.{IsWhole}
 use Rattle.wire_base.proofs.HeadLemmas.{head_stays}
 
+-- what holds of both choices, each where it is taken, holds of the choice
 choice : (P : List ℕ → Type 0) (n limit : ℕ) (x y : List ℕ) → (n < limit → P x) → (limit ≤ n → P y) → P (cond (ltb n limit) x y)
 choice P n limit x y below above = elim (cases_lt n limit) [
   | inl lt ↦ rw (lt-ltb n limit lt) (below lt)
