@@ -38,3 +38,6 @@ pub use streams::{Failed, Link, Sink, Source};
 pub use text::{Id, Text, TextFault};
 pub use token::{HeadStep, TokenHead};
 pub use whole::Whole;
+
+#[cfg(test)]
+mod tests;
