@@ -9,3 +9,5 @@ pub mod Causes
 pub mod Streams
 pub mod Memory
 pub mod Numbers
+pub mod Shortest
+pub mod Appends
