@@ -251,6 +251,12 @@ unfoldable pub payload_at : Bool → Reader (List ℕ)
 payload_at false rest = Ok ([], rest)
 payload_at true rest = follow (head_at a_bin BadShape rest) (run_of (length rest))
 
+-- what a frame of this code carries
+unfoldable pub content_at : Bool → Code → Reader Payload
+content_at has_payload code = do
+  bytes ← payload_at has_payload
+  placed (carried code bytes)
+
 -- ---- frames of versions 2 and 3
 
 -- how many elements a frame has without its payload
@@ -268,8 +274,7 @@ packed_at v = do
   code ← token_at a_number code_in BadCode
   id ← token_at a_number id_in BadId
   source ← origin_at v
-  bytes ← payload_at has_payload
-  content ← placed (carried code bytes)
+  content ← content_at has_payload code
   done (record { code = code; id = id; origin = source; payload = content })
 
 -- ---- frames of version 1
@@ -299,13 +304,17 @@ plain_carried code.ContentWritingCompleted bytes = Ok payload.Nothing
 plain_carried code.ChannelTerminated bytes = Ok payload.Nothing
 plain_carried code.ContentProcessed bytes = Ok payload.Nothing
 
+unfoldable pub plain_content_at : Code → ℕ → Reader Payload
+plain_content_at code size = do
+  bytes ← bytes_at size
+  placed (plain_carried code bytes)
+
 unfoldable pub plain_at : Reader Frame
 plain_at = do
   code ← field_at w8 plain_code BadCode
   id ← field_at w32 plain_id BadId
   size ← field_at w16 (λ n. Some n) BadShape
-  bytes ← bytes_at size
-  content ← placed (plain_carried code bytes)
+  content ← plain_content_at code size
   done (record { code = code; id = id; origin = origin.ByParity; payload = content })
 
 -- ---- the front

@@ -3,6 +3,8 @@
 
 mod codec;
 mod fault;
+mod laws;
 
 pub use codec::FrameCodec;
 pub use fault::{DecodeError, Fault};
+pub use laws::front_stands_within;
