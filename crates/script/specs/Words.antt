@@ -1,5 +1,5 @@
 -- What a word of a script stands for.
-use Rattle.std.specs.Prelude.{ℕ, ◌^◌, nat_lt, ◌==◌, List, [], ◌∷◌, Bool, true, false, ◌||◌, ◌&&◌, length, slice_index, Option, Some, None, option_and_then, if◌then◌else◌, codes, decimal}
+use Rattle.std.specs.Prelude.{ℕ, ◌^◌, nat_lt, nat_le, ◌==◌, List, [], ◌∷◌, Bool, true, false, ◌||◌, ◌&&◌, length, slice_index, Option, Some, None, option_and_then, if◌then◌else◌, codes, decimal}
 use Rattle.std.specs.List.{slice_split}
 use Rattle.std.specs.Result.{result_ok}
 use Rattle.std.specs.Str.{bytes_eq}
@@ -40,13 +40,17 @@ is_same_side A B = false
 is_same_side B A = false
 is_same_side B B = true
 
+-- the side that the first letter names, and what follows it
+unfoldable pub front_in : List ℕ → Option (Side × List ℕ)
+front_in [] = None
+front_in (letter ∷ digits) = side_in (letter ∷ []) >>= λ side. Some (side, digits)
+
 -- a channel as this side names it
 unfoldable pub channel_in : Side → List ℕ → Option ChannelKey
-channel_in side [] = None
-channel_in side (letter ∷ digits) = do
-  offering ← side_in (letter ∷ [])
-  id ← number_in digits
-  Some (record { id = id; own = is_same_side offering side })
+channel_in side word = do
+  front ← front_in word
+  id ← number_in front.1
+  Some (record { id = id; own = is_same_side front.0 side })
 
 unfoldable pub name_in : List ℕ → Option (List ℕ)
 name_in word = if bytes_eq word hyphen then Some [] else if bytes_eq word [] then None else Some word
@@ -54,6 +58,10 @@ name_in word = if bytes_eq word hyphen then Some [] else if bytes_eq word [] the
 -- hex digits in lower case, two for each byte
 unfoldable pub bytes_in : List ℕ → Option (List ℕ)
 bytes_in word = if bytes_eq word hyphen then Some [] else (result_ok (decode_of word) >>= if_written bytes_word word)
+
+-- a letter that no hex word has
+abbrev pub is_capital : ℕ → Bool
+is_capital b = nat_le 65 b && nat_le b 90
 
 unfoldable pub count_in : List ℕ → Option ℕ
 count_in word = if bytes_eq word (codes "all") then Some everything else number_in word

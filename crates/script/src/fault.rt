@@ -1,5 +1,7 @@
 //! What stops the reader of a script.
 
+ghost use Rattle.std.specs.Prelude.{◌≡◌};
+
 use crate::reason::ScriptReason;
 use std::alloc::{AllocError, AllocFailed};
 use wire_base::OutOfMemory;
@@ -37,5 +39,19 @@ impl From<OutOfMemory> for ScriptFault {
 
     fn from(_: OutOfMemory) -> Self {
         ScriptFault::OutOfMemory
+    }
+}
+
+impl LineFault {
+    ghost use Rattle.script.specs.Given.{fault_at};
+
+    /// The fault of the script whose line has this number.
+    pub fn at(self, number: u64) -> ScriptFault
+        ensures { result ≡ fault_at number self }
+    {
+        match self {
+            LineFault::Refused(reason) => ScriptFault::Refused(number, reason),
+            LineFault::OutOfMemory => ScriptFault::OutOfMemory,
+        }
     }
 }

@@ -3,9 +3,12 @@
 
 mod fault;
 mod lines;
+mod reading;
 mod reason;
 mod step_word;
+mod steps;
 mod words;
 
 pub use fault::ScriptFault;
+pub use reading::{Script, read_script};
 pub use reason::ScriptReason;
