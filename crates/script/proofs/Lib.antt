@@ -1,0 +1,5 @@
+mod LineLemmas
+mod NumberLemmas
+mod HexWords
+mod FrontLemmas
+mod TextLemmas
