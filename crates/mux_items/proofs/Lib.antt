@@ -1,0 +1,4 @@
+pub mod Keys
+pub mod Emission
+pub mod Taking
+pub mod Applied

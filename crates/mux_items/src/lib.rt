@@ -2,7 +2,9 @@
 #![tactic(auto)]
 
 mod channel;
+mod laws;
 mod party;
 
 pub use channel::{ChannelKey, ChannelView, MuxEvent, Phase, Tally};
+pub use laws::{counts_are_bounded, sent_is_emitted};
 pub use party::Party;

@@ -1,0 +1,21 @@
+//! Laws of one end's items.
+
+ghost use Rattle.std.specs.Prelude.{◌≡◌, ◌≤◌, ◌++◌, ℕ, List, length, take, false};
+ghost use Rattle.wire_base.specs.declared.frame.Version.{Version};
+ghost use Rattle.mux_items.specs.declared.channel.ChannelKey.{ChannelKey};
+ghost use Rattle.mux_items.specs.Bodies.{is_one};
+ghost use Rattle.mux_items.specs.Items.{Item, restricted};
+ghost use Rattle.mux_items.specs.Lists.{written, window, emitted, taken, handed, unread};
+ghost use Rattle.mux_items.specs.Due.{sent, got, contents};
+ghost use Rattle.mux_items.specs.Applying.{Allowed};
+
+/// What was sent on a channel is the emitted front of what was written.
+pub fn sent_is_emitted()
+    ensures { (v : Version) (c : ChannelKey) (items : List Item) → contents c (sent v items) ≡ take (emitted v c items) (written c items) }
+{}
+
+/// No more is handed over than was taken, and no more is emitted than was written.
+pub fn counts_are_bounded()
+    ensures handed { (v : Version) (c : ChannelKey) (items : List Item) → handed v c items ≤ length (taken v c items) }
+    ensures emitted { (v : Version) (c : ChannelKey) (items : List Item) → emitted v c items ≤ length (written c items) }
+{}
