@@ -1,0 +1,3 @@
+pub mod WholeFrames
+pub mod Growing
+pub mod Links

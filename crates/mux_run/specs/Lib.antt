@@ -1,4 +1,5 @@
 pub mod Built
+pub mod Cuts
 pub mod Run
 pub mod Safe
 pub mod Linked
