@@ -30,11 +30,11 @@ written_grows c item items =
     let w = written_more c item items in
     omega (arith, ap length w.1, length-append (written c items) w.0)
 
-if_or : (b x : Bool) → x ≡ true → (if b then true else x) ≡ true
+pub if_or : (b x : Bool) → x ≡ true → (if b then true else x) ≡ true
 if_or true x e = refl
 if_or false x e = e
 
-if_plus : (b : Bool) (m n : ℕ) → n ≤ (if b then n + m else n)
+pub if_plus : (b : Bool) (m n : ℕ) → n ≤ (if b then n + m else n)
 if_plus true m n = omega arith
 if_plus false m n = omega arith
 
@@ -174,7 +174,7 @@ no_content : (c : ChannelKey) (b : Bool) (f : ChannelFrame) → content_on c f �
 no_content c true f e = ap (λ bs. bs ++ []) e
 no_content c false f e = refl
 
-no_body_content : (c key : ChannelKey) (body : FrameBody) → content_of body ≡ [] → content_on c (frame_on key body) ≡ []
+pub no_body_content : (c key : ChannelKey) (body : FrameBody) → content_of body ≡ [] → content_on c (frame_on key body) ≡ []
 no_body_content c key body e = elim (cases_Bool (same_key key c)) [
   | inl f ↦ rw f e
   | inr f ↦ rw f refl

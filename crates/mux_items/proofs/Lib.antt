@@ -1,4 +1,6 @@
 pub mod Keys
 pub mod Emission
-pub mod Taking
+pub mod Permits
 pub mod Applied
+pub mod Taking
+pub mod Window

@@ -19,3 +19,8 @@ pub fn counts_are_bounded()
     ensures handed { (v : Version) (c : ChannelKey) (items : List Item) → handed v c items ≤ length (taken v c items) }
     ensures emitted { (v : Version) (c : ChannelKey) (items : List Item) → emitted v c items ≤ length (written c items) }
 {}
+
+/// What was taken from a channel is a front of the content that came on it.
+pub fn taken_is_content()
+    ensures { (v : Version) (c : ChannelKey) (items : List Item) → Allowed v items → (rest : List ℕ) × (taken v c items ++ rest ≡ contents c (got items)) }
+{}
