@@ -4,3 +4,4 @@ pub mod Permits
 pub mod Applied
 pub mod Taking
 pub mod Window
+pub mod Apart

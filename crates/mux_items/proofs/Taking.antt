@@ -78,7 +78,7 @@ completion_in_more v c item items ok e =
     (and_from (is_accepted_in c (item ∷ items)) (has_completed c (item ∷ items)) (accepted_in_more c item items inner.0) (completed_more c item items inner.1))
     (eq-eqb (emitted_in v c (item ∷ items)) (length (written c (item ∷ items))) (omega (arith, emitted_in_more v c item items, emitted_in_bound v c (item ∷ items), all, same)))
 
-abbrev finished_in : Version → ChannelKey → List Item → Bool
+abbrev pub finished_in : Version → ChannelKey → List Item → Bool
 finished_in v c items = completion_in v c items && is_completed_in c items
 
 finished_in_more : (v : Version) (c : ChannelKey) (item : Item) (items : List Item) → Allowed v (item ∷ items) → finished_in v c items ≡ true → finished_in v c (item ∷ items) ≡ true

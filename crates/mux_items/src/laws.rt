@@ -24,3 +24,8 @@ pub fn counts_are_bounded()
 pub fn taken_is_content()
     ensures { (v : Version) (c : ChannelKey) (items : List Item) → Allowed v items → (rest : List ℕ) × (taken v c items ++ rest ≡ contents c (got items)) }
 {}
+
+/// In versions 2 and 3 no more is unread than the own window, whatever the peer sends.
+pub fn window_is_kept()
+    ensures { (v : Version) (c : ChannelKey) (items : List Item) → is_one v ≡ false → Allowed v items → length (unread v c items) ≤ window c items }
+{}

@@ -6,5 +6,5 @@ mod laws;
 mod party;
 
 pub use channel::{ChannelKey, ChannelView, MuxEvent, Phase, Tally};
-pub use laws::{counts_are_bounded, sent_is_emitted, taken_is_content};
+pub use laws::{counts_are_bounded, sent_is_emitted, taken_is_content, window_is_kept};
 pub use party::Party;
