@@ -1,12 +1,12 @@
 -- A channel depends on the items that name it, the handshake and the end alone.
-use Rattle.std.specs.Prelude.{ℕ, ◌+◌, ◌-◌, min, List, [], ◌∷◌, ◌++◌, length, drop, Bool, true, false, not, ◌&&◌, ◌||◌, ◌==◌, if◌then◌else◌, Option, Some, None}
-use Rattle.std.proofs.Common.{◌≡◌, ◌⊎◌, inl, inr, refl, sym, ◌∙◌, ap}
+use Rattle.std.specs.Prelude.{ℕ, ◌+◌, min, List, [], ◌∷◌, ◌++◌, length, drop, Bool, true, false, not, ◌&&◌, ◌||◌, ◌==◌, if◌then◌else◌}
+use Rattle.std.proofs.Common.{◌≡◌, inl, inr, refl, sym, ◌∙◌, ap}
 use Rattle.std.proofs.lemmas.Bool.{cases_Bool, true≢false}
 use Rattle.wire_base.specs.declared.frame.Version.{Version}
 use Rattle.mux_items.specs.declared.channel.ChannelKey.{ChannelKey}
-use Rattle.mux_items.specs.Bodies.{FrameBody, Offer, OfferAccepted, Content, ContentWritingCompleted, ChannelTerminated, ContentProcessed, same_key, window_of}
-use Rattle.mux_items.specs.Items.{Item, Hello, DidOffer, DidAccept, DidWrite, DidRead, DidComplete, DidTerminate, Got, Rejected, End, names, restricted}
-use Rattle.mux_items.specs.Lists.{written, window, has_completed, has_terminated, is_terminated_by_peer, is_rejected, is_cut, before_cut, is_accepted_in, granted_in, is_completed_in, within_grant, emitted_in, emitted, completion_in, completion_emitted, is_finished, termination_emitted, heeds, taken, is_accepted, handed, is_dropped, unread_count, unread}
+use Rattle.mux_items.specs.Bodies.{Offer, OfferAccepted, Content, ContentWritingCompleted, ChannelTerminated, ContentProcessed, same_key, window_of}
+use Rattle.mux_items.specs.Items.{Item, DidOffer, DidAccept, DidWrite, DidRead, DidComplete, DidTerminate, Got, Rejected, End, names, restricted}
+use Rattle.mux_items.specs.Lists.{written, window, has_completed, has_terminated, is_terminated_by_peer, is_rejected, is_cut, before_cut, is_accepted_in, granted_in, is_completed_in, within_grant, emitted_in, emitted, completion_in, completion_emitted, is_finished, termination_emitted, taken, is_accepted, handed, is_dropped, unread_count, unread}
 use Rattle.mux_items.proofs.Emission.{written_unnamed, accepted_in_unnamed, granted_in_unnamed, cut_unnamed, no_cut}
 use Rattle.mux_items.proofs.Taking.{finished_in}
 

@@ -5,3 +5,4 @@ pub mod Applied
 pub mod Taking
 pub mod Window
 pub mod Apart
+mod Worked

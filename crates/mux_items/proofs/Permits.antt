@@ -1,18 +1,18 @@
 -- What is so where a call or a frame isn't refused.
-use Rattle.std.specs.Prelude.{ℕ, ◌+◌, List, [], ◌∷◌, length, Bool, true, false, not, ◌&&◌, ◌||◌, nat_lt, if◌then◌else◌, Option, Some, None}
-use Rattle.std.proofs.Common.{◌≡◌, ◌≤◌, refl, sym, ◌∙◌, ap}
-use Rattle.std.proofs.lemmas.Bool.{true≢false, false≢true, ltb-false}
+use Rattle.std.specs.Prelude.{ℕ, ◌+◌, List, length, Bool, true, false, not, ◌&&◌, nat_lt, if◌then◌else◌, Option, Some, None}
+use Rattle.std.proofs.Common.{◌≡◌, ◌≤◌, refl}
+use Rattle.std.proofs.lemmas.Bool.{true≢false, ltb-false}
 use Rattle.wire_base.specs.declared.frame.Version.{Version}
 use Rattle.wire_base.specs.declared.refusal.Refusal.{Refusal}
 use Rattle.wire_base.specs.declared.refusal.Refusal.TheVariants as refusal
 use Rattle.wire_base.specs.declared.reason.Reason.TheVariants as reason
 use Rattle.wire_base.specs.declared.state.Cause.{Cause}
 use Rattle.mux_items.specs.declared.channel.ChannelKey.{ChannelKey}
-use Rattle.mux_items.specs.Bodies.{FrameBody, Content, is_one}
+use Rattle.mux_items.specs.Bodies.{Content, is_one}
 use Rattle.mux_items.specs.Items.{Item, ended}
-use Rattle.mux_items.specs.Lists.{window, has_completed, is_offered, termination_emitted, is_accepted, is_completed, unread}
+use Rattle.mux_items.specs.Lists.{window, has_completed, termination_emitted, is_accepted, is_completed, unread}
 use Rattle.mux_items.specs.Kept.{is_kept, own_windows}
-use Rattle.mux_items.specs.Refusals.{unless_ended, or_else, is_bad_window, most_windows, heeded_refusal, writing_refusal, open_refusal, write_refusal, accept_refusal, frame_refusal, is_early, is_above_window, is_unaccepted}
+use Rattle.mux_items.specs.Refusals.{unless_ended, or_else, is_bad_window, most_windows, heeded_refusal, writing_refusal, write_refusal, accept_refusal, frame_refusal, is_early, is_above_window}
 
 unless_none : (cause : Option Cause) (refused : Option Refusal) → unless_ended cause refused ≡ None → refused ≡ None
 unless_none (Some cause) refused e = absurd (cc)

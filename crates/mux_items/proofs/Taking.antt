@@ -1,17 +1,16 @@
 -- What was taken from a channel is a front of the content that came on it.
-use Rattle.std.specs.Prelude.{ℕ, ◌+◌, ◌-◌, min, ◌≤◌, List, [], ◌∷◌, ◌++◌, length, Bool, true, false, not, ◌&&◌, ◌||◌, ◌==◌, nat_le, if◌then◌else◌, Option, Some, None}
-use Rattle.std.proofs.Common.{◌≡◌, ◌⊎◌, inl, inr, refl, sym, ◌∙◌, ap, subst, arith, length-append, append_assoc}
+use Rattle.std.specs.Prelude.{ℕ, ◌+◌, ◌≤◌, List, [], ◌∷◌, ◌++◌, length, Bool, true, false, not, ◌&&◌, ◌||◌, ◌==◌, nat_le, if◌then◌else◌}
+use Rattle.std.proofs.Common.{◌≡◌, inl, inr, refl, sym, ◌∙◌, ap, subst, arith, length-append, append_assoc}
 use Rattle.std.proofs.lemmas.Bool.{cases_Bool, true≢false, false≢true, and_parts, and_from, or_left, or_right, eqb-true, eq-eqb}
 use Rattle.std.proofs.lemmas.List.{append-nil}
 use Rattle.mux_items.specs.declared.channel.ChannelKey.{ChannelKey}
 use Rattle.wire_base.specs.declared.frame.Version.{Version}
 use Rattle.mux_items.specs.Bodies.{FrameBody, Offer, OfferAccepted, Content, ContentWritingCompleted, ChannelTerminated, ContentProcessed, ChannelFrame, frame_on, same_key}
-use Rattle.mux_items.specs.Items.{Item, DidAccept, DidWrite, DidRead, DidComplete, DidTerminate, Got, Rejected}
+use Rattle.mux_items.specs.Items.{Item, DidWrite, DidRead, DidComplete, DidTerminate, Got, Rejected}
 use Rattle.mux_items.specs.Kept.{kept_keys, most_channels}
-use Rattle.mux_items.specs.Lists.{written, is_cut, before_cut, is_accepted_in, is_completed_in, emitted_in, completion_in, has_completed, has_terminated, is_terminated_by_peer, is_rejected, is_finished, termination_emitted, heeds, taken, handed, is_dropped, unread_count}
+use Rattle.mux_items.specs.Lists.{written, is_accepted_in, is_completed_in, emitted_in, completion_in, has_completed, has_terminated, is_terminated_by_peer, is_rejected, is_finished, termination_emitted, heeds, taken, handed, is_dropped, unread_count}
 use Rattle.mux_items.specs.Due.{got, content_of, content_on, contents}
-use Rattle.mux_items.specs.Refusals.{write_refusal}
-use Rattle.mux_items.specs.Applying.{Allowed, is_offer, is_refused_room}
+use Rattle.mux_items.specs.Applying.{Allowed, is_offer}
 use Rattle.mux_items.proofs.Keys.{same_key_true}
 use Rattle.mux_items.proofs.Emission.{if_or, contents-append, no_body_content, accepted_in_more, emitted_in_more, emitted_in_bound, before_cut_cases}
 use Rattle.mux_items.proofs.Permits.{write_permits}
@@ -101,8 +100,8 @@ pub termination_more : (v : Version) (c : ChannelKey) (item : Item) (items : Lis
 termination_more v c item items e ok =
     or_more (has_terminated c items || is_terminated_by_peer c items || is_rejected c items) (is_finished v c items) (has_terminated c (item ∷ items) || is_terminated_by_peer c (item ∷ items) || is_rejected c (item ∷ items)) (is_finished v c (item ∷ items))
     (or_more (has_terminated c items || is_terminated_by_peer c items) (is_rejected c items) (has_terminated c (item ∷ items) || is_terminated_by_peer c (item ∷ items)) (is_rejected c (item ∷ items))
-      (or_more (has_terminated c items) (is_terminated_by_peer c items) (has_terminated c (item ∷ items)) (is_terminated_by_peer c (item ∷ items)) (terminated_more c item items) (by_peer_more c item items))
-      (rejected_more c item items))
+    (or_more (has_terminated c items) (is_terminated_by_peer c items) (has_terminated c (item ∷ items)) (is_terminated_by_peer c (item ∷ items)) (terminated_more c item items) (by_peer_more c item items))
+    (rejected_more c item items))
     (finished_more v c item items ok)
     e
 

@@ -1,13 +1,12 @@
 -- No more is unread than the own window.
-use Rattle.std.specs.Prelude.{ℕ, ◌+◌, ◌-◌, min, ◌≤◌, List, [], ◌∷◌, ◌++◌, length, drop, Bool, true, false, not, ◌&&◌, ◌||◌, if◌then◌else◌, Option, Some, None}
+use Rattle.std.specs.Prelude.{ℕ, ◌+◌, min, ◌≤◌, List, [], ◌∷◌, ◌++◌, length, drop, Bool, true, false, not, ◌&&◌, ◌||◌, if◌then◌else◌}
 use Rattle.std.proofs.Common.{◌≡◌, ◌⊎◌, inl, inr, refl, sym, ◌∙◌, ap, subst, arith, length-append, length-drop}
-use Rattle.std.proofs.lemmas.Bool.{cases_Bool, true≢false, false≢true, or_left, or_right, or_cases, or_parts, not-true, not-false}
+use Rattle.std.proofs.lemmas.Bool.{cases_Bool, true≢false, false≢true, or_left, or_right}
 use Rattle.wire_base.specs.declared.frame.Version.{Version}
 use Rattle.mux_items.specs.declared.channel.ChannelKey.{ChannelKey}
-use Rattle.mux_items.specs.Bodies.{FrameBody, OfferAccepted, Content, same_key, is_one}
+use Rattle.mux_items.specs.Bodies.{OfferAccepted, Content, same_key, is_one}
 use Rattle.mux_items.specs.Items.{Item, DidOffer, DidAccept, DidRead, Got}
-use Rattle.mux_items.specs.Lists.{window, has_terminated, is_terminated_by_peer, is_rejected, is_finished, termination_emitted, heeds, taken, is_accepted, handed, is_dropped, unread_count, unread}
-use Rattle.mux_items.specs.Refusals.{accept_refusal, frame_refusal}
+use Rattle.mux_items.specs.Lists.{window, has_terminated, is_terminated_by_peer, is_rejected, is_finished, termination_emitted, taken, is_accepted, handed, is_dropped, unread_count, unread}
 use Rattle.mux_items.specs.Applying.{Allowed}
 use Rattle.mux_items.proofs.Keys.{same_key_true}
 use Rattle.mux_items.proofs.Emission.{if_plus}
@@ -74,19 +73,28 @@ unread_count_more false false t m n f le = omega arith
 -- an item that takes nothing
 same_taken : (v : Version) (c : ChannelKey) (item : Item) (items : List Item) → Allowed v (item ∷ items) → taken v c (item ∷ items) ≡ taken v c items → length (unread v c items) ≤ window c items → length (unread v c (item ∷ items)) ≤ window c (item ∷ items)
 same_taken v c item items ok same le =
-    omega (arith, length-unread v c items, length-unread v c (item ∷ items), ap (λ bs. unread_count (is_dropped v c (item ∷ items)) (length bs) (handed v c (item ∷ items))) same,
-    unread_count_less (is_dropped v c items) (is_dropped v c (item ∷ items)) (length (taken v c items)) (handed v c items) (handed v c (item ∷ items)) (dropped_more v c item items ok) (handed_grows v c item items),
-    window_grows c item items)
+    omega (
+      arith,
+      length-unread v c items,
+      length-unread v c (item ∷ items),
+      ap (λ bs. unread_count (is_dropped v c (item ∷ items)) (length bs) (handed v c (item ∷ items))) same,
+      unread_count_less (is_dropped v c items) (is_dropped v c (item ∷ items)) (length (taken v c items)) (handed v c items) (handed v c (item ∷ items)) (dropped_more v c item items ok) (handed_grows v c item items),
+      window_grows c item items,
+    )
 
 taken_content : (v : Version) (place : ℕ) (c : ChannelKey) (bytes : List ℕ) (items : List Item) → is_one v ≡ false → Allowed v (Got place c (Content bytes) ∷ items) → termination_emitted v c items ≡ false → taken v c (Got place c (Content bytes) ∷ items) ≡ taken v c items ++ bytes
     → length (unread v c (Got place c (Content bytes) ∷ items)) ≤ window c items
 taken_content v place c bytes items two ok heard grown =
     let item = Got place c (Content bytes) in
-    omega (arith, length-unread v c items, length-unread v c (item ∷ items),
-    ap (λ bs. unread_count (is_dropped v c (item ∷ items)) (length bs) (handed v c items)) grown,
-    ap (λ n. unread_count (is_dropped v c (item ∷ items)) n (handed v c items)) (length-append (taken v c items) bytes),
-    unread_count_more (is_dropped v c items) (is_dropped v c (item ∷ items)) (length (taken v c items)) (handed v c items) (length bytes) (dropped_more v c item items ok) (handed_bound v c items),
-    content_permits v c bytes items two ok.1 heard)
+    omega (
+      arith,
+      length-unread v c items,
+      length-unread v c (item ∷ items),
+      ap (λ bs. unread_count (is_dropped v c (item ∷ items)) (length bs) (handed v c items)) grown,
+      ap (λ n. unread_count (is_dropped v c (item ∷ items)) n (handed v c items)) (length-append (taken v c items) bytes),
+      unread_count_more (is_dropped v c items) (is_dropped v c (item ∷ items)) (length (taken v c items)) (handed v c items) (length bytes) (dropped_more v c item items ok) (handed_bound v c items),
+      content_permits v c bytes items two ok.1 heard,
+    )
 
 taken_by : (same terminated : Bool) (xs ys : List ℕ) → ((same ≡ true) × (terminated ≡ false) × ((if same && not terminated then xs ++ ys else xs) ≡ xs ++ ys)) ⊎ ((if same && not terminated then xs ++ ys else xs) ≡ xs)
 taken_by true false xs ys = inl (refl, refl, refl)
