@@ -1,9 +1,7 @@
 -- What was sent on a channel is the emitted front of what was written.
 use Rattle.std.specs.Prelude.{ℕ, zero, suc, ◌+◌, min, ◌≤◌, List, [], ◌∷◌, ◌++◌, length, take, drop, map, Bool, true, false, ◌==◌, ◌&&◌, if◌then◌else◌}
-use Rattle.std.specs.List.{flat_map}
-use Rattle.std.proofs.Common.{◌≡◌, ◌⊎◌, inl, inr, refl, sym, ◌∙◌, ap, subst, arith, length-append, length-take, length-drop, append_assoc}
-use Rattle.std.proofs.lemmas.Bool.{cases_Bool, false≢true, true≢false}
-use Rattle.std.proofs.lemmas.Bool.Decides.{nat_tests}
+use Rattle.std.proofs.Common.{◌≡◌, ◌⊎◌, inl, inr, refl, sym, ◌∙◌, ap, arith, length-append, length-take, length-drop}
+use Rattle.std.proofs.lemmas.Bool.{cases_Bool, true≢false}
 use Rattle.std.proofs.lemmas.List.{append-nil, take-append-le, take-append-drop, take-take, drop_all}
 use Rattle.std.proofs.lemmas.List.Concat.{flat_map-append}
 use Rattle.wire_base.specs.declared.frame.Version.{Version}
@@ -30,11 +28,11 @@ written_grows c item items =
     let w = written_more c item items in
     omega (arith, ap length w.1, length-append (written c items) w.0)
 
-if_or : (b x : Bool) → x ≡ true → (if b then true else x) ≡ true
+pub if_or : (b x : Bool) → x ≡ true → (if b then true else x) ≡ true
 if_or true x e = refl
 if_or false x e = e
 
-if_plus : (b : Bool) (m n : ℕ) → n ≤ (if b then n + m else n)
+pub if_plus : (b : Bool) (m n : ℕ) → n ≤ (if b then n + m else n)
 if_plus true m n = omega arith
 if_plus false m n = omega arith
 
@@ -174,7 +172,7 @@ no_content : (c : ChannelKey) (b : Bool) (f : ChannelFrame) → content_on c f �
 no_content c true f e = ap (λ bs. bs ++ []) e
 no_content c false f e = refl
 
-no_body_content : (c key : ChannelKey) (body : FrameBody) → content_of body ≡ [] → content_on c (frame_on key body) ≡ []
+pub no_body_content : (c key : ChannelKey) (body : FrameBody) → content_of body ≡ [] → content_on c (frame_on key body) ≡ []
 no_body_content c key body e = elim (cases_Bool (same_key key c)) [
   | inl f ↦ rw f e
   | inr f ↦ rw f refl

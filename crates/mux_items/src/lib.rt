@@ -6,5 +6,7 @@ mod laws;
 mod party;
 
 pub use channel::{ChannelKey, ChannelView, MuxEvent, Phase, Tally};
-pub use laws::{counts_are_bounded, sent_is_emitted};
+pub use laws::{
+    channels_are_apart, counts_are_bounded, sent_is_emitted, taken_is_content, window_is_kept,
+};
 pub use party::Party;
