@@ -11,10 +11,10 @@ use Rattle.hex.specs.declared.error.FromHexError.{FromHexError}
 use Rattle.hex.proofs.HexLemmas.{decode_of-even, decode_of-encode_lower, decode_pairs-ok, length-encode_with}
 use Rattle.script.specs.Spelling.{hyphen, bytes_word}
 use Rattle.script.specs.Words.{bytes_in, is_capital, if_written}
-use Rattle.script.proofs.NumberLemmas.{bytes_eq-same, same_from_bytes_eq}
+use Rattle.script.proofs.Tests.{bytes_eq-same, same_from_bytes_eq, or_false, not_true, tested}
 
 -- the digit of a value below 16
-abbrev glyph : ℕ → ℕ
+abbrev pub glyph : ℕ → ℕ
 glyph d = if ltb d 10 then 48 + d else 87 + d
 
 abbrev all_glyphs : ℕ → Bool
@@ -32,7 +32,7 @@ all_glyphs-at (suc n) k h lt =
           rw e (eqb-true (slice_index lower_digits n) (glyph n) parts.0)
     ]
 
-lower_is_glyph : (k : ℕ) → k < 16 → slice_index lower_digits k ≡ glyph k
+pub lower_is_glyph : (k : ℕ) → k < 16 → slice_index lower_digits k ≡ glyph k
 lower_is_glyph k lt = all_glyphs-at 16 k refl lt
 
 -- a digit that is no capital is the one that is written
@@ -58,10 +58,6 @@ low_text : (bs : List ℕ) → list_any is_capital (encode_lower bs) ≡ false
 unfolding encode_with
 low_text [] = refl
 low_text (b ∷ bs) = rw (digit_low (b / 16), digit_low (b % 16)) (low_text bs)
-
-or_false : (a b : Bool) → (a || b) ≡ false → (a ≡ false) × (b ≡ false)
-or_false true b h = cc h
-or_false false b h = (refl, h)
 
 bind_ok : {A B : Type 0} (r : Result A FromHexError) (f : A → Result B FromHexError) (y : B) → (r >>= f) ≡ Ok y → (x : A) × (r ≡ Ok x) × (f x ≡ Ok y)
 bind_ok (Ok x) f y h = (x, refl, h)
@@ -110,10 +106,6 @@ bytes_in-empty (b ∷ bs) e = absurd (omega arith)
 low_word : (bs : List ℕ) → list_any is_capital (bytes_word bs) ≡ false
 low_word [] = refl
 low_word (b ∷ bs) = low_text (b ∷ bs)
-
-not_true : (b : Bool) → (b ≡ true → ⊥) → b ≡ false
-not_true true h = absurd (h refl)
-not_true false h = refl
 
 -- no value is written so
 if_written-none : (word bs : List ℕ) → (bytes_word bs ≡ word → ⊥) → if_written bytes_word word bs ≡ None
@@ -168,10 +160,6 @@ read_back word bs (Ok x) d h =
     let e = p.1 in
     let all = decode_pairs-ok 0 word x (decode_ok_pairs word x d) in
     (rw e at same, rw e at (all.2))
-
-pub tested : (b : Bool) → (b ≡ true) ⊎ (b ≡ false)
-tested true = inl refl
-tested false = inr refl
 
 none_are_bytes : IsBytes []
 none_are_bytes i = omega arith

@@ -1,5 +1,11 @@
+mod Tests
 mod LineLemmas
 mod NumberLemmas
 mod HexWords
 mod FrontLemmas
 mod TextLemmas
+mod Splits
+mod LineTexts
+mod StepWords
+mod PlainWords
+mod StepLines
