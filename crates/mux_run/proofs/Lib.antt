@@ -1,3 +1,5 @@
 pub mod WholeFrames
 pub mod Growing
 pub mod Links
+pub mod PlainFrames
+pub mod Plain

@@ -3,4 +3,5 @@ pub mod Cuts
 pub mod Run
 pub mod Safe
 pub mod Linked
+pub mod Plain
 pub mod Answers
