@@ -1,3 +1,4 @@
 pub mod Lane
 pub mod Stands
 pub mod Replies
+pub mod Tests
