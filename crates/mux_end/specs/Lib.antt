@@ -3,3 +3,4 @@ pub mod Stands
 pub mod Replies
 pub mod Tests
 pub mod Sound
+pub mod Ends

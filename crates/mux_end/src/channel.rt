@@ -2,16 +2,30 @@
 
 ghost use Rattle.frame_text.specs.Codec.{is_packed};
 ghost use Rattle.mux_end.specs.Lane.{accepted_lane, answered_lane, credited_lane, heard_lane, offered_lane, read_count, read_lane, sendable, sendable_bytes, taken_lane, with_emitted, written_lane};
-ghost use Rattle.mux_end.specs.Tests.{accept_tests, acceptance_tests, content_tests, pending_in, processed_tests, read_tests, shown_lane, tally_in, write_tests};
+ghost use Rattle.mux_end.specs.Tests.{accept_tests, acceptance_tests, content_tests, lane_phase, pending_in, processed_tests, read_tests, shown_lane, tally_in, write_tests};
 ghost use Rattle.mux_items.specs.Bodies.{frame_texts, same_key};
 ghost use Rattle.mux_items.specs.Due.{content_frames};
-ghost use Rattle.std.specs.Prelude.{◌≡◌, ◌≤◌, ◌<◌, ◌+◌, ◌++◌, drop, length, take, true, false, IfOk, OnOk};
+ghost use Rattle.mux_items.specs.Refusals.{is_bad_window};
+ghost use Rattle.std.specs.Prelude.{◌≡◌, ◌≤◌, ◌<◌, ◌+◌, ◌-◌, ◌++◌, drop, length, take, true, false, IfOk, OnOk};
 
 use crate::frames::push_content;
-use mux_items::ChannelKey;
+use mux_items::{ChannelKey, ChannelView, Phase, Tally};
 use std::alloc::Global;
 use std::marker::Model;
-use wire_base::{OutOfMemory, Version};
+use wire_base::{EndState, OutOfMemory, Reason, Refusal, Version};
+
+/// The most bytes that are written on a channel.
+const MOST_BYTES: usize = 0x4000_0000_0000_0000;
+
+/// The greatest window that may be given.
+const GREATEST_WINDOW: u32 = 16_777_216;
+
+/// Whether a window may not be given.
+pub fn is_bad_window(window: u32) -> bool
+    ensures { result ≡ is_bad_window window }
+{
+    window < 1 || GREATEST_WINDOW < window
+}
 
 /// A channel: all bytes that were written and taken, and how far emission and reading got.
 #[derive(Drop)]
@@ -39,6 +53,157 @@ impl Model for Channel {
 }
 
 impl Channel {
+    pub fn key(&self) -> ChannelKey
+        ensures { result ≡ self.now.key }
+    {
+        self.key
+    }
+
+    /// Whether the key is this channel's.
+    pub fn has_key(&self, key: ChannelKey) -> bool
+        ensures { result ≡ same_key key self.now.key }
+    {
+        key.id == self.key.id && key.own == self.key.own
+    }
+
+    pub fn is_accepted(&self) -> bool
+        ensures { result ≡ self.now.accepted }
+    {
+        self.accepted
+    }
+
+    pub fn accept_refusal(&self, key: ChannelKey, window: u32) -> Option<Refusal>
+        ensures { result ≡ accept_tests self.now key window }
+    {
+        if !self.has_key(key) {
+            Some(Refusal::NoChannel)
+        } else if key.own {
+            Some(Refusal::WrongSide)
+        } else if self.accepted {
+            Some(Refusal::AlreadyAccepted)
+        } else if is_bad_window(window) {
+            Some(Refusal::BadWindow)
+        } else {
+            None
+        }
+    }
+
+    pub fn write_refusal(&self, key: ChannelKey, bytes: &[u8]) -> Option<Refusal>
+        ensures { result ≡ write_tests self.now key bytes.now }
+    {
+        if !self.has_key(key) {
+            Some(Refusal::NoChannel)
+        } else if !key.own && !self.accepted {
+            Some(Refusal::NotAccepted)
+        } else if MOST_BYTES - self.written.len() < bytes.len() {
+            Some(Refusal::BytesSpent)
+        } else {
+            None
+        }
+    }
+
+    pub fn read_refusal(&self, key: ChannelKey) -> Option<Refusal>
+        ensures { result ≡ read_tests self.now key }
+    {
+        if !self.has_key(key) {
+            Some(Refusal::NoChannel)
+        } else if !key.own && !self.accepted {
+            Some(Refusal::NotAccepted)
+        } else {
+            None
+        }
+    }
+
+    /// Why the peer's acceptance is refused, if it is.
+    pub fn acceptance_refusal(&self, key: ChannelKey) -> Option<Reason>
+        ensures { result ≡ acceptance_tests key self.now }
+    {
+        if !key.own {
+            Some(Reason::WrongSide)
+        } else if self.accepted {
+            Some(Reason::AlreadyAccepted)
+        } else {
+            None
+        }
+    }
+
+    /// Why the peer's content is refused, if it is.
+    pub fn content_refusal(&self, bytes: &[u8]) -> Option<Reason>
+        ensures { result ≡ content_tests bytes.now self.now }
+    {
+        if !self.accepted {
+            Some(Reason::NotAccepted)
+        } else if (self.window as usize) < self.unread() + bytes.len() {
+            Some(Reason::WindowExceeded)
+        } else {
+            None
+        }
+    }
+
+    /// Why the peer's acknowledgement is refused, if it is.
+    pub fn processed_refusal(&self, count: u64) -> Option<Reason>
+        ensures { result ≡ processed_tests count self.now }
+    {
+        if self.emitted as u64 - self.acknowledged < count {
+            Some(Reason::OverAcknowledged)
+        } else {
+            None
+        }
+    }
+
+    fn unread(&self) -> usize
+        ensures { result ≡ length self.now.taken - self.now.handed }
+    {
+        self.taken.len() - self.handed
+    }
+
+    fn phase(&self) -> Phase
+        ensures { result ≡ lane_phase self.now }
+    {
+        if self.accepted {
+            Phase::Live
+        } else if self.key.own {
+            Phase::Waiting
+        } else {
+            Phase::Heard
+        }
+    }
+
+    fn pending(&self, state: EndState) -> usize
+        ensures { result ≡ pending_in state self.now }
+    {
+        match state {
+            EndState::Running => self.written.len() - self.emitted,
+            EndState::Ended(_) | EndState::Stopped => 0,
+        }
+    }
+
+    /// The channel as it is shown at an end in this state.
+    pub fn view(&self, state: EndState) -> ChannelView
+        ensures { result ≡ shown_lane state self.now }
+    {
+        ChannelView {
+            phase: self.phase(),
+            unread: self.unread(),
+            pending: self.pending(state),
+            emitted: self.emitted as u64,
+            granted: Some(self.granted),
+            completed: false,
+        }
+    }
+
+    pub fn tally(&self) -> Tally
+        ensures { result ≡ tally_in self.now }
+    {
+        Tally {
+            phase: self.phase(),
+            written: self.written.len() as u64,
+            emitted: self.emitted as u64,
+            taken: self.taken.len() as u64,
+            handed: self.handed as u64,
+        }
+    }
+
     /// A channel that this end offers.
     pub fn offered(alloc: Global, key: ChannelKey, window: u32) -> Channel
         requires id_above { 0 < key.id }
