@@ -4,6 +4,7 @@ use Rattle.std.specs.Prelude.{if◌then◌else◌, ◌&&◌, nat_lt, nat_le}
 use Rattle.std.specs.Str.{is_utf8}
 use Rattle.std.specs.Int.{w16, w32, w64, to_be_bytes}
 use Rattle.std.proofs.lemmas.Bool.{lt-ltb, le-leb}
+use Rattle.std.proofs.lemmas.Str.{is_utf8-from_IsUtf8}
 use Rattle.wire_base.specs.declared.frame.Version.{Version}
 use Rattle.wire_base.specs.declared.frame.Version.TheVariants as version
 use Rattle.frame_text.specs.Codec.{is_packed}
@@ -103,4 +104,4 @@ pub fits_processed : (v : Version) (key : ChannelKey) (count : ℕ) → is_packe
 fits_processed v key count p a b w =
     body_fits v key (ContentProcessed count) p a b (code_fits_processed v count p w) (length_fits v _ p (omega (arith, unsigned_short count)))
 
-pub ruleset frames_fit = (fits_offer, fits_accepted, fits_content, fits_processed)
+pub ruleset frames_fit = (is_utf8-from_IsUtf8, fits_offer, fits_accepted, fits_content, fits_processed)

@@ -54,7 +54,9 @@ impl Model for Channel {
 
 impl Channel {
     pub fn key(&self) -> ChannelKey
-        ensures { result ≡ self.now.key }
+        ensures key { result ≡ self.now.key }
+        ensures id_above { 0 < result.id }
+        ensures id_below { result.id < 0x8000000000000000 }
     {
         self.key
     }

@@ -5,7 +5,6 @@ ghost use Rattle.frame_text.specs.Frames.{fits, text};
 ghost use Rattle.mux_items.specs.Bodies.{Content, ContentProcessed, Offer, OfferAccepted, frame_on, frame_text, frame_texts, origin_of};
 ghost use Rattle.mux_items.specs.Due.{content_frames};
 ghost use Rattle.std.specs.Prelude.{◌≡◌, ◌≤◌, ◌<◌, ◌++◌, length, true, OnOk, IfOk, Some};
-ghost use Rattle.std.specs.Str.{is_utf8};
 
 use mux_items::ChannelKey;
 use std::alloc::Global;
@@ -62,10 +61,10 @@ pub fn push_offer(
     requires id_above { 0 < key.id }
     requires id_below { key.id < 0x8000000000000000 }
     requires short { length name.now ≤ 1024 }
-    requires utf8 { is_utf8 name.now ≡ true }
     ensures { OnOk result (out.new.items ≡ out.old.items ++ frame_text version (frame_on key (Offer name.now (Some window)))) }
 {
-    let payload = Payload::Offer(name.copy(alloc)?, Some(u64::from(window)));
+    let name = Text::from_str(alloc, name.as_str())?;
+    let payload = Payload::Offer(name, Some(u64::from(window)));
     push_frame(version, &frame(version, key, Code::Offer, payload), out)
 }
 

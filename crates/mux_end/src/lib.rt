@@ -2,4 +2,5 @@
 #![tactic(auto)]
 
 mod channel;
+mod end;
 mod frames;
