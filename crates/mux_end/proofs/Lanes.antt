@@ -2,7 +2,7 @@
 use Rattle.std.proofs.Common.{◌≡◌, ◌≤◌, ◌<◌, ℕ, ◌+◌, ◌-◌, min, List, [], ◌∷◌, ◌++◌, length, take, drop, Bool, true, false, Option, Some, None, refl, sym, ◌∙◌, ap, subst, arith, inl, inr, length-append, length-drop}
 use Rattle.std.specs.Prelude.{not, ◌&&◌, ◌==◌, if◌then◌else◌, is_none}
 use Rattle.std.specs.List.{list_all}
-use Rattle.std.proofs.lemmas.List.{append-nil, drop_all, length-take-le}
+use Rattle.std.proofs.lemmas.List.{append-nil, drop_all, length-take}
 use Rattle.std.proofs.lemmas.Bool.{cases_Bool, false≢true}
 use Rattle.wire_base.specs.declared.frame.Version.{Version}
 use Rattle.wire_base.specs.declared.frame.Version.TheVariants as version
@@ -116,3 +116,80 @@ lane_heard at c name size items each a running none =
 pub next_key-none : (items : List Item) → list_all is_built_item items ≡ true → Allowed version.Three items → is_running items ≡ true → keys items ≡ []
     → (let first : ChannelKey = record { id = 1; own = true } in next_key items ≡ first)
 next_key-none items each a running none = subst (λ items. let first : ChannelKey = record { id = 1; own = true } in next_key items ≡ first) (sym (none_before version.Three items each a running none)) refl
+
+-- the frames due
+due_on-built : (v : Version) (c : ChannelKey) (first : List ChannelFrame) (item : Item) (items : List Item) → list_all is_built_item (item ∷ items) ≡ true
+    → due_on v c first item items ≡ first ++ content_frames c (newly_emitted v c item items)
+due_on-built v c first item items each =
+    let content : List ChannelFrame = content_frames c (newly_emitted v c item items) in
+    let frames : Bool → Bool → List ChannelFrame = λ completed terminated.
+      first ++ content
+      ++ (if completed && not (completion_emitted v c items) then frame_on c ContentWritingCompleted ∷ [] else [])
+      ++ (if terminated && not (termination_emitted v c items) then frame_on c ChannelTerminated ∷ [] else []) in
+    ap (λ b. frames b (termination_emitted v c (item ∷ items))) (completion_emitted-built v c (item ∷ items) each)
+    ∙ (ap (λ b. frames false b) (termination_emitted-built v c (item ∷ items) each) ∙ simp append-nil)
+
+newly_is : (c : ChannelKey) (item : Item) (items : List Item) (lane : Lane) → lane_of version.Three c (item ∷ items) ≡ with_emitted lane → emitted version.Three c items ≡ lane.emitted
+    → newly_emitted version.Three c item items ≡ sendable_bytes lane
+newly_is c item items lane is from =
+    ap (λ (l : Lane). span (emitted version.Three c items) l.emitted l.written) is ∙ ap (λ n. span n (sendable lane) lane.written) from
+
+due_by : (c : ChannelKey) (first : List ChannelFrame) (item : Item) (items : List Item) (lane : Lane) → list_all is_built_item (item ∷ items) ≡ true
+    → lane_of version.Three c (item ∷ items) ≡ with_emitted lane → emitted version.Three c items ≡ lane.emitted
+    → due_on version.Three c first item items ≡ first ++ content_frames c (sendable_bytes lane)
+due_by c first item items lane each is from =
+    due_on-built version.Three c first item items each ∙ ap (λ bs. first ++ content_frames c bs) (newly_is c item items lane is from)
+
+pub due_accepted : (c : ChannelKey) (size : ℕ) (items : List Item) → list_all is_built_item items ≡ true → is_running items ≡ true
+    → due version.Three (DidAccept c size) items ≡ frame_on c (OfferAccepted (Some size)) ∷ content_frames c (sendable_bytes (accepted_lane size (lane_of version.Three c items)))
+due_accepted c size items each running =
+    due_by c (frame_on c (OfferAccepted (Some size)) ∷ []) (DidAccept c size) items (accepted_lane size (lane_of version.Three c items)) each (lane_accepted c size items each running) refl
+
+pub due_answered : (at : ℕ) (c : ChannelKey) (size : Option ℕ) (items : List Item) → list_all is_built_item items ≡ true → is_running items ≡ true
+    → due version.Three (Got at c (OfferAccepted size)) items ≡ content_frames c (sendable_bytes (answered_lane (window_of size) (lane_of version.Three c items)))
+due_answered at c size items each running =
+    due_by c [] (Got at c (OfferAccepted size)) items (answered_lane (window_of size) (lane_of version.Three c items)) each (lane_answered at c size items each running) refl
+
+pub due_wrote : (c : ChannelKey) (bytes : List ℕ) (items : List Item) → list_all is_built_item items ≡ true → is_running items ≡ true
+    → due version.Three (DidWrite c bytes) items ≡ content_frames c (sendable_bytes (written_lane bytes (lane_of version.Three c items)))
+due_wrote c bytes items each running =
+    due_by c [] (DidWrite c bytes) items (written_lane bytes (lane_of version.Three c items)) each (lane_wrote c bytes items each running) refl
+
+pub due_credited : (at : ℕ) (c : ChannelKey) (count : ℕ) (items : List Item) → list_all is_built_item items ≡ true → is_running items ≡ true
+    → due version.Three (Got at c (ContentProcessed count)) items ≡ content_frames c (sendable_bytes (credited_lane count (lane_of version.Three c items)))
+due_credited at c count items each running =
+    due_by c [] (Got at c (ContentProcessed count)) items (credited_lane count (lane_of version.Three c items)) each (lane_credited at c count items each running) refl
+
+span-self : (n : ℕ) (bytes : List ℕ) → span n n bytes ≡ []
+span-self n bytes = drop_all n (take n bytes) (omega (arith, length-take n bytes))
+
+pub due_took : (at : ℕ) (c : ChannelKey) (bytes : List ℕ) (items : List Item) → list_all is_built_item items ≡ true → is_running items ≡ true
+    → due version.Three (Got at c (Content bytes)) items ≡ []
+due_took at c bytes items each running =
+    due_on-built version.Three c [] (Got at c (Content bytes)) items each
+    ∙ ap (content_frames c) (ap (λ n. span (emitted version.Three c items) n (written c items)) (took_emitted at c bytes items each running) ∙ span-self (emitted version.Three c items) (written c items))
+
+running_state : (e : Option Cause) → is_running_state (state_by e) ≡ is_none e
+running_state None = refl
+running_state (Some cause) = refl
+
+is_live-built : (v : Version) (c : ChannelKey) (items : List Item) → list_all is_built_item items ≡ true → is_live v c items ≡ is_accepted v c items
+is_live-built v c items each = ap (λ b. not b && is_accepted v c items) (termination_emitted-built v c items each)
+
+pub due_read : (c : ChannelKey) (max : ℕ) (items : List Item) → list_all is_built_item items ≡ true
+    → due version.Three (DidRead c max) items ≡ read_frames (state_of items) max (lane_of version.Three c items)
+due_read c max items each =
+    let count : ℕ → Bool → Bool → List ChannelFrame = λ n r l. if n == 0 then [] else if r && l then frame_on c (ContentProcessed n) ∷ [] else [] in
+    ap (λ n. count n (is_running items) (is_live version.Three c items)) (ap (min max) (unread_length-built version.Three c items each))
+    ∙ (ap (λ b. count (read_count max (lane_of version.Three c items)) b (is_live version.Three c items)) (sym (running_state (ended items)))
+    ∙ ap (λ b. count (read_count max (lane_of version.Three c items)) (is_running_state (state_of items)) b) (is_live-built version.Three c items each))
+
+pub due_offered : (c : ChannelKey) (name : List ℕ) (size : ℕ) (items : List Item) → list_all is_built_item items ≡ true → Allowed version.Three items → is_running items ≡ true → keys items ≡ []
+    → due version.Three (DidOffer c name size) items ≡ frame_on c (Offer name (Some size)) ∷ []
+due_offered c name size items each a running none =
+    subst (λ items. due version.Three (DidOffer c name size) items ≡ frame_on c (Offer name (Some size)) ∷ []) (sym (none_before version.Three items each a running none)) refl
+
+pub due_heard : (at : ℕ) (c : ChannelKey) (name : List ℕ) (size : Option ℕ) (items : List Item) → list_all is_built_item items ≡ true → Allowed version.Three items → is_running items ≡ true → keys items ≡ []
+    → due version.Three (Got at c (Offer name size)) items ≡ []
+due_heard at c name size items each a running none =
+    subst (λ items. due version.Three (Got at c (Offer name size)) items ≡ []) (sym (none_before version.Three items each a running none)) refl
