@@ -2,3 +2,4 @@ pub mod Fits
 pub mod Pieces
 pub mod Plain
 pub mod Tells
+pub mod Lanes
