@@ -1,95 +1,58 @@
-//! The codec.
-
 ghost use Rattle.frame_text.specs.Codec.{is_packed};
-ghost use Rattle.frame_text.specs.Reading.{Gives, content_at, elements, front, origin_at, packed_at, payload_at};
-ghost use Rattle.std.specs.Prelude.{◌≡◌, ◌<◌, length, true};
+ghost use Rattle.std.specs.Prelude.{◌≡◌, true};
 
-use crate::payload::carried;
-use crate::tokens::{bin_head, breaks, code, id, open_array, source};
-use frame_text::{DecodeError, Fault};
+use crate::fits::fits;
+use crate::reading::step;
+use crate::writing::push_frame;
+use frame_text::FrameCodec;
 use std::alloc::Global;
-use wire_base::{Code, Frame, Origin, Payload, Reason, Version};
+use std::marker::Model;
+use wire_base::{Frame, FrameStep, OutOfMemory, Place, Version};
 
-/// A payload has at most so many bytes.
-const MAX_PAYLOAD: u32 = 0x10_0000;
-
-/// A payload's bytes, and the bytes after it.
-#[tactic(auto, unfolding(frame_text::specs::Reading::payload_at))]
-fn payload_bytes(present: bool, bytes: &[u8]) -> Result<(&[u8], &[u8]), DecodeError>
-    ensures { Gives (λ x. (x.0.now, x.1.now)) result (payload_at present bytes.now) }
-{
-    if !present {
-        return Ok((&[], bytes));
-    }
-    let (len, rest) = bin_head(Reason::BadShape, bytes)?;
-    if len > MAX_PAYLOAD {
-        return Err(breaks(bytes, Reason::PayloadTooLong));
-    }
-    let len = len as usize;
-    if rest.len() < len {
-        return Err(DecodeError::Fault(Fault::Ends));
-    }
-    Ok(rest.split_at(len))
-}
-
-#[tactic(auto, unfolding(frame_text::specs::Reading::content_at))]
-fn content(
-    alloc: Global,
-    present: bool,
-    code: Code,
-    bytes: &[u8],
-) -> Result<(Payload, &[u8]), DecodeError>
-    ensures { Gives (λ x. (x.0, x.1.now)) result (content_at present code bytes.now) }
-{
-    let (content, rest) = payload_bytes(present, bytes)?;
-    match carried(alloc, code, content) {
-        Ok(payload) => Ok((payload, rest)),
-        Err(DecodeError::Fault(Fault::Breaks(left, reason))) => {
-            Err(DecodeError::Fault(Fault::Breaks(left + rest.len(), reason)))
-        }
-        Err(error) => Err(error),
-    }
-}
-
-fn origin(version: Version, bytes: &[u8]) -> Result<(Origin, &[u8]), DecodeError>
-    ensures { Gives (λ x. (x.0, x.1.now)) result (origin_at version bytes.now) }
-{
-    match version {
-        Version::Three => source(bytes),
-        Version::One | Version::Two => Ok((Origin::ByParity, bytes)),
-    }
-}
-
-fn least_elements(version: Version) -> u32
-    ensures exact { result ≡ elements version }
-    ensures few { result < 8 }
-{
-    match version {
-        Version::Three => 3,
-        Version::One | Version::Two => 2,
-    }
-}
-
-#[tactic(auto, unfolding(frame_text::specs::Reading::packed_at))]
-fn packed(
-    alloc: Global,
+/// The codec of version 2 or 3, seen by contracts as its version.
+#[derive(Debug, Drop)]
+pub struct PackCodec {
     version: Version,
-    bytes: &[u8],
-) -> Result<(Frame, &[u8]), DecodeError>
-    ensures { Gives (λ x. (x.0, x.1.now)) result (packed_at version bytes.now) }
-{
-    let (has_payload, rest) = open_array(least_elements(version), Reason::BadShape, bytes)?;
-    let (code, rest) = code(rest)?;
-    let (id, rest) = id(rest)?;
-    let (origin, rest) = origin(version, rest)?;
-    let (payload, rest) = content(alloc, has_payload, code, rest)?;
-    Ok((
-        Frame {
-            code,
-            id,
-            origin,
-            payload,
-        },
-        rest,
-    ))
+}
+
+impl Model for PackCodec {
+    ghost use Rattle.frame_text.specs.Codec.{is_packed};
+    ghost use Rattle.std.specs.Prelude.{◌≡◌, true};
+    ghost use Rattle.wire_base.specs.declared.frame.Version.{Version};
+
+    ghost Value = { Version };
+
+    ghost view = { λ c. c.version };
+
+    ghost invariant = { λ c. is_packed c.version ≡ true };
+}
+
+impl PackCodec {
+    pub fn new(version: Version) -> PackCodec
+        requires { is_packed version ≡ true }
+        ensures { result ≡ version }
+    {
+        PackCodec { version }
+    }
+}
+
+impl FrameCodec for PackCodec {
+    ghost version = { λ v. v };
+
+    fn decode(&self, alloc: Global, bytes: &[u8], at: Place) -> FrameStep {
+        step(alloc, self.version, bytes, at)
+    }
+
+    fn fits(&self, frame: &Frame) -> bool {
+        fits(self.version, frame)
+    }
+
+    fn encode(&self, frame: &Frame, out: &mut Vec<u8>) -> Result<(), OutOfMemory> {
+        let len = out.len();
+        if push_frame(self.version, frame, out).is_err() {
+            out.truncate(len);
+            return Err(OutOfMemory);
+        }
+        Ok(())
+    }
 }

@@ -2,5 +2,11 @@
 #![tactic(auto)]
 
 mod codec;
+mod fits;
+mod heads;
 mod payload;
+mod reading;
 mod tokens;
+mod writing;
+
+pub use codec::PackCodec;

@@ -263,7 +263,7 @@ origin_at-stops version.One = record { at = λ bytes. (omega arith, omega arith)
 origin_at-stops version.Two = record { at = λ bytes. (omega arith, omega arith) }
 origin_at-stops version.Three = record { at = λ bytes. eased (length bytes) (token_at a_number origin_in BadSource bytes) ((token_at-stops a_number origin_in BadSource).at bytes) }
 
-packed_at-stops : (v : Version) → Stops 3 0x100055 (packed_at v)
+pub packed_at-stops : (v : Version) → Stops 3 0x100055 (packed_at v)
 unfolding packed_at
 packed_at-stops v =
     stops-then 1 17 2 0x100044 (token_at an_array (last_in (elements v)) BadShape) _ (token_at-stops an_array (last_in (elements v)) BadShape) (λ has.
