@@ -3,3 +3,4 @@ pub mod Pieces
 pub mod Plain
 pub mod Tells
 pub mod Lanes
+pub mod Ranges
