@@ -1,3 +1,4 @@
 pub mod Plain
 pub mod Tells
 pub mod Lanes
+pub mod Refuses
