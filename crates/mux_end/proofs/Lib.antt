@@ -2,3 +2,4 @@ pub mod Plain
 pub mod Tells
 pub mod Lanes
 pub mod Refuses
+pub mod Shows

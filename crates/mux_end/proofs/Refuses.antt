@@ -49,7 +49,7 @@ key_cases key c P same other = elim (cases_Bool (same_key key c)) [
 ]
 
 -- what the rules say of a key is what the channel says, where it says so of no channel, of its key and of another
-channel_is : {A : Type 0} (rule : ChannelKey → A) (kept : Option Lane → ChannelKey → A) (key : ChannelKey) (items : List Item) → IsBuilt items
+pub channel_is : {A : Type 0} (rule : ChannelKey → A) (kept : Option Lane → ChannelKey → A) (key : ChannelKey) (items : List Item) → IsBuilt items
     → (is_known key items ≡ false → rule key ≡ kept None key)
     → ((c : ChannelKey) → keys items ≡ c ∷ [] → rule c ≡ kept (Some (lane_of version.Three c items)) c)
     → ((c : ChannelKey) → same_key key c ≡ false → kept (Some (lane_of version.Three c items)) key ≡ kept None key)
@@ -62,7 +62,7 @@ channel_is rule kept key items built unknown same other = elim (keys_cases (keys
     ∙ ap (λ channel. kept channel key) (sym (channel_one version.Three w.0 items w.1))
 ]
 
-is_kept-one : (c : ChannelKey) (items : List Item) → list_all is_built_item items ≡ true → keys items ≡ c ∷ [] → is_kept version.Three c items ≡ true
+pub is_kept-one : (c : ChannelKey) (items : List Item) → list_all is_built_item items ≡ true → keys items ≡ c ∷ [] → is_kept version.Three c items ≡ true
 is_kept-one c items each one = is_kept-built version.Three c items each ∙ (is_known-one c c items one ∙ same_key-refl c)
 
 -- writing
@@ -213,3 +213,66 @@ offer_refusal_is name size items built allowed =
         (offer_left (nat_lt 1024 (length name)) (is_bad_window size) (nat_le most_channels (length (kept_keys version.Three items))) (nat_lt most_windows (own_windows version.Three items + size)) (nat_le 2147483647 (own_offers items))
           (lt-leb most_channels (length (kept_keys version.Three items)) (omega arith)) (windows_left (own_windows version.Three items) size (own_windows_small items built allowed)) (lt-leb 2147483647 (own_offers items) (omega (arith, built.one))))
     ∙ sym (over_ended (ended items) (offer_tests name size)))
+
+-- frames
+reason_or_none : (r : Option Reason) → reason_or r None ≡ r
+reason_or_none None = refl
+reason_or_none (Some r) = refl
+
+peer_offer_first : (own : Bool) → reason_or (if own then Some reason.WrongSide else None) None ≡ (if own then Some reason.WrongSide else None)
+peer_offer_first true = refl
+peer_offer_first false = refl
+
+peer_offer_second : (own same : Bool) → reason_or (if own then Some reason.WrongSide else if same then Some reason.IdInUse else None) (Some reason.NotBuilt) ≡ (if own then Some reason.WrongSide else if same then Some reason.IdInUse else Some reason.NotBuilt)
+peer_offer_second true same = refl
+peer_offer_second false true = refl
+peer_offer_second false false = refl
+
+peer_offer_is : (key : ChannelKey) (name : List ℕ) (size : Option ℕ) (items : List Item) → IsBuilt items
+    → built_refusal version.Three key (Offer name size) items ≡ peer_offer_tests (channel_of version.Three items) key
+peer_offer_is key name size items built =
+    let refused : Bool → List ChannelKey → Option Reason = λ known ks. reason_or (if key.own then Some reason.WrongSide else if known then Some reason.IdInUse else None) (second_offer (Offer name size) ks) in
+    elim (keys_cases (keys items) built.one) [
+      | inl none ↦
+        (λ i. refused ((is_offered-built key items built.each ∙ is_known-none key items none) i) (none i))
+        ∙ (peer_offer_first key.own ∙ ap (λ channel. peer_offer_tests channel key) (sym (channel_none version.Three items none)))
+      | inr w ↦
+        (λ i. refused ((is_offered-built key items built.each ∙ is_known-one key w.0 items w.1) i) (w.1 i))
+        ∙ (peer_offer_second key.own (same_key key w.0) ∙ ap (λ channel. peer_offer_tests channel key) (sym (channel_one version.Three w.0 items w.1)))
+    ]
+
+later_is : (key : ChannelKey) (body : FrameBody) (items : List Item) (tests : ChannelKey → Lane → Option Reason) → IsBuilt items
+    → ((c : ChannelKey) → heeded_refusal version.Three c body items ≡ tests c (lane_of version.Three c items))
+    → later_refusal version.Three key body items ≡ on_named (channel_of version.Three items) key (tests key)
+later_is key body items tests built heeded =
+    let later : Bool → Bool → Option Reason → Option Reason = λ known closed r. if not known then Some reason.NoChannel else if closed then None else r in
+    channel_is (λ k. later_refusal version.Three k body items) (λ channel k. on_named channel k (tests k)) key items built
+      (λ unknown. ap (λ b. later b (termination_emitted version.Three key items) (heeded_refusal version.Three key body items)) (is_offered-built key items built.each ∙ unknown))
+      (λ c one. λ i. later ((is_offered-built c items built.each ∙ (is_known-one c c items one ∙ (same_key-refl c ∙ sym (same_key-refl c)))) i) (termination_emitted-built version.Three c items built.each i) (heeded c i))
+      (λ c differ. ap (λ b. if not b then Some reason.NoChannel else tests key (lane_of version.Three c items)) differ)
+
+or_true : (b : Bool) → (b || true) ≡ true
+or_true true = refl
+or_true false = refl
+
+content_heeded : (c : ChannelKey) (bytes : List ℕ) (items : List Item) → list_all is_built_item items ≡ true
+    → heeded_refusal version.Three c (Content bytes) items ≡ content_tests bytes (lane_of version.Three c items)
+content_heeded c bytes items each =
+    let tests : Bool → Bool → ℕ → Option Reason = λ other completed unread.
+      if other && not (is_accepted version.Three c items) then Some reason.NotAccepted
+      else if completed then Some reason.ContentAfterCompletion
+      else if nat_lt (window c items) (unread + length bytes) then Some reason.WindowExceeded
+      else None in
+    λ i. tests (or_true c.own i) (is_completed-built version.Three c items each i) (unread_length-built version.Three c items each i)
+
+pub built_refusal_is : (key : ChannelKey) (body : FrameBody) (items : List Item) → IsBuilt items
+    → built_refusal version.Three key body items ≡ lane_frame_refusal (channel_of version.Three items) key body
+built_refusal_is key (Offer name size) items built = peer_offer_is key name size items built
+built_refusal_is key (OfferAccepted size) items built =
+    reason_or_none (later_refusal version.Three key (OfferAccepted size) items) ∙ later_is key (OfferAccepted size) items acceptance_tests built (λ c. refl)
+built_refusal_is key (Content bytes) items built =
+    reason_or_none (later_refusal version.Three key (Content bytes) items) ∙ later_is key (Content bytes) items (λ k. content_tests bytes) built (λ c. content_heeded c bytes items built.each)
+built_refusal_is key ContentWritingCompleted items built = refl
+built_refusal_is key ChannelTerminated items built = refl
+built_refusal_is key (ContentProcessed count) items built =
+    reason_or_none (later_refusal version.Three key (ContentProcessed count) items) ∙ later_is key (ContentProcessed count) items (λ k. processed_tests count) built (λ c. refl)
