@@ -1,6 +1,6 @@
 -- The shortest heads of MessagePack tokens. From the MessagePack specification, "Formats".
 use Rattle.std.specs.Prelude.{ℕ, ◌+◌, List, [], ◌∷◌, nat_lt, if◌then◌else◌}
-use Rattle.std.specs.Int.{w8, w16, w32, w64, to_be_bytes}
+use Rattle.std.specs.Int.{w16, w32, w64, to_be_bytes}
 
 -- a number that isn't negative, below 2^64
 abbrev pub unsigned_text : ℕ → List ℕ

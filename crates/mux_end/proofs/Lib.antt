@@ -1,3 +1,5 @@
+pub mod Fits
+pub mod Pieces
 pub mod Plain
 pub mod Tells
 pub mod Lanes

@@ -2,3 +2,5 @@ pub mod Lane
 pub mod Stands
 pub mod Replies
 pub mod Tests
+pub mod Sound
+pub mod Ends
