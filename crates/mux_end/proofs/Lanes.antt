@@ -169,7 +169,7 @@ due_took at c bytes items each running =
     due_on-built version.Three c [] (Got at c (Content bytes)) items each
     ∙ ap (content_frames c) (ap (λ n. span (emitted version.Three c items) n (written c items)) (took_emitted at c bytes items each running) ∙ span-self (emitted version.Three c items) (written c items))
 
-running_state : (e : Option Cause) → is_running_state (state_by e) ≡ is_none e
+pub running_state : (e : Option Cause) → is_running_state (state_by e) ≡ is_none e
 running_state None = refl
 running_state (Some cause) = refl
 

@@ -4,3 +4,5 @@ pub mod Plain
 pub mod Tells
 pub mod Lanes
 pub mod Ranges
+pub mod Refuses
+pub mod Shows

@@ -288,7 +288,7 @@ keys_rest (DidOffer key name size) items one = omega arith
 keys_rest (Got place key (Offer name size)) items one = omega arith
 keys_rest item items one = one
 
-no_keys : (ks : List ChannelKey) → length ks ≤ 0 → ks ≡ []
+pub no_keys : (ks : List ChannelKey) → length ks ≤ 0 → ks ≡ []
 no_keys [] none = refl
 no_keys (k ∷ ks) none = absurd (omega arith)
 
