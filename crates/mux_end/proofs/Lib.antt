@@ -1,0 +1,8 @@
+pub mod Fits
+pub mod Pieces
+pub mod Plain
+pub mod Tells
+pub mod Lanes
+pub mod Ranges
+pub mod Refuses
+pub mod Shows
