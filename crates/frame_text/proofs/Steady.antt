@@ -15,8 +15,9 @@ use Rattle.wire_base.specs.declared.frame.Origin.TheVariants as origin
 use Rattle.wire_base.specs.declared.frame.Frame.{Frame}
 use Rattle.frame_text.specs.declared.fault.Fault.{Fault}
 use Rattle.frame_text.specs.declared.fault.Fault.TheVariants.{Ends, Breaks}
+use Rattle.frame_text.specs.Codec.{elements}
 use Rattle.frame_text.specs.Front.{Front, Whole, Short, Broken}
-use Rattle.frame_text.specs.Reading.{Reading, Reader, follow, ◌>>=◌, done, Sort, a_number, a_bin, an_array, unfinished, allowed, headed, head_at, token_at, code_in, id_in, origin_in, last_in, carried, placed, run_of, payload_at, content_at, elements, origin_at, packed_at, field_at, bytes_at, plain_code, plain_id, plain_carried, plain_content_at, plain_at, frame_at, front_of, front}
+use Rattle.frame_text.specs.Reading.{Reading, Reader, follow, ◌>>=◌, done, Sort, a_number, a_bin, an_array, unfinished, allowed, headed, head_at, token_at, code_in, id_in, origin_in, last_in, carried, placed, run_of, payload_at, content_at, origin_at, packed_at, field_at, bytes_at, plain_code, plain_id, plain_carried, plain_content_at, plain_at, frame_at, front_of, front}
 use Rattle.frame_text.proofs.Heads.{head-size, head-more, head-refused, kind-unfinished, IsSort, is_sort-number, is_sort-bin, is_sort-array}
 use Rattle.frame_text.proofs.Within.{tested, front_within}
 
