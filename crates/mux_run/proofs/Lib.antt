@@ -6,3 +6,4 @@ pub mod Plain
 pub mod Safety
 pub mod Fed
 pub mod Streams
+mod Worked
