@@ -407,8 +407,6 @@ broken_near v bytes offset reason p e = subst (λ (x : Front). IsFrontNear x) e 
 pub front_near : (v : Version) (bytes : List ℕ) (f : Frame) (size : ℕ) → is_packed v ≡ true → front v bytes ≡ Whole f size → size ≤ 0x100055
 front_near v bytes f size p e = subst (λ (x : Front). IsFrontNear x) e (is_front-near v bytes p)
 
-pub ruleset withins = (front_within, broken_within, front_near, broken_near)
-
 pub payload_at-whole : (present : Bool) (bytes x rest : List ℕ) → payload_at present bytes ≡ Ok (x, rest) → length x + length rest ≤ length bytes
 payload_at-whole present bytes x rest e =
     let p : IsRun 0x100000 (length bytes) (Ok (x, rest)) = subst (λ (r : Reading (List ℕ)). IsRun 0x100000 (length bytes) r) e (payload_at-is present bytes) in

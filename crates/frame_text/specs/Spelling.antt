@@ -1,5 +1,5 @@
 -- What bytes spell a frame, apart from their reading. Every width of every token is a spelling.
-use Rattle.std.specs.Prelude.{◌≡◌, ℕ, ◌+◌, ◌-◌, ◌<◌, ◌≤◌, List, [], ◌∷◌, ◌++◌, length, ℤ, pos, negsuc, Bool, true, false, if◌then◌else◌, Option, Some, None}
+use Rattle.std.specs.Prelude.{◌≡◌, ℕ, ◌+◌, ◌<◌, ◌≤◌, List, [], ◌∷◌, ◌++◌, length, ℤ, pos, negsuc, Bool, true, false, if◌then◌else◌, Option, Some, None, slice_index}
 use Rattle.std.specs.Int.{w16, w32, from_be_bytes}
 use Rattle.std.specs.Str.{is_utf8}
 use Rattle.wire_base.specs.Head.{head_of}
@@ -20,6 +20,10 @@ use Rattle.frame_text.specs.Codec.{elements}
 use Rattle.frame_text.specs.Frames.{code_number}
 use Rattle.frame_text.specs.Front.{Broken}
 use Rattle.frame_text.specs.Reading.{front}
+
+-- each is a byte
+abbrev pub AreBytes : List ℕ → Type 0
+AreBytes bytes = (i : ℕ) → slice_index bytes i < 256
 
 -- these bytes, all of them, are a head that says this
 abbrev pub IsHead : TokenHead → List ℕ → Type 0
