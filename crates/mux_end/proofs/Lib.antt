@@ -6,3 +6,4 @@ pub mod Lanes
 pub mod Ranges
 pub mod Refuses
 pub mod Shows
+pub mod Taking

@@ -1,14 +1,18 @@
 -- What calls and frames make of an end.
-use Rattle.std.specs.Prelude.{◌≡◌, ◌≤◌, ℕ, ◌+◌, List, [], ◌∷◌, ◌++◌, length, drop, take, Option, Some, None}
+use Rattle.std.specs.Prelude.{◌≡◌, ◌≤◌, ℕ, ◌+◌, List, [], ◌∷◌, ◌++◌, length, drop, take, not, if◌then◌else◌, Option, Some, None}
 use Rattle.wire_base.specs.declared.frame.Version.TheVariants as version
+use Rattle.wire_base.specs.declared.frame.Payload.{Payload}
+use Rattle.wire_base.specs.declared.frame.Payload.TheVariants as payload
+use Rattle.wire_base.specs.declared.reason.Reason.{Reason}
+use Rattle.wire_base.specs.declared.reason.Reason.TheVariants as reason
 use Rattle.wire_base.specs.declared.state.EndState.{EndState}
 use Rattle.mux_items.specs.declared.channel.ChannelKey.{ChannelKey}
-use Rattle.mux_items.specs.Bodies.{FrameBody, Offer, OfferAccepted, Content, ContentWritingCompleted, ChannelTerminated, ContentProcessed, ChannelFrame, frame_on, frame_texts, window_of}
+use Rattle.mux_items.specs.Bodies.{FrameBody, Offer, OfferAccepted, Content, ContentWritingCompleted, ChannelTerminated, ContentProcessed, ChannelFrame, frame_on, frame_texts, same_key, window_of}
 use Rattle.mux_items.specs.Due.{content_frames}
 use Rattle.mux_items.specs.Refusals.{most_bytes}
 use Rattle.mux_end.specs.Lane.{Lane, sendable_bytes, with_emitted, offered_lane, heard_lane, accepted_lane, answered_lane, written_lane, taken_lane, credited_lane, read_count, read_lane}
 use Rattle.mux_end.specs.Stands.{EndValue}
-use Rattle.mux_end.specs.Tests.{read_frames}
+use Rattle.mux_end.specs.Tests.{acceptance_tests, content_tests, processed_tests, read_frames}
 
 -- an end of version 3 that was fed no more than may be fed
 pub record IsSoundEnd (end : EndValue) : Type 0 where
@@ -75,3 +79,14 @@ with_applied size end = record end { at = end.at + size; rest = drop size end.re
 pub record KeepsTerms (old new : EndValue) : Type 0 where
   pub version : new.version ≡ old.version
   pub nonce : new.nonce ≡ old.nonce
+
+-- what the channel says of a frame on it that isn't an offer and isn't empty
+abbrev pub heeded_tests : ChannelKey → Payload → Lane → Option Reason
+heeded_tests key (payload.Offer name size) lane = None
+heeded_tests key (payload.Accepted size) lane = acceptance_tests key lane
+heeded_tests key (payload.Content bytes) lane = content_tests bytes lane
+heeded_tests key payload.Nothing lane = None
+heeded_tests key (payload.Processed count) lane = processed_tests count lane
+
+abbrev pub payload_tests : ChannelKey → Payload → Lane → Option Reason
+payload_tests key said lane = if not (same_key key lane.key) then Some reason.NoChannel else heeded_tests key said lane

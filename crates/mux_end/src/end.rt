@@ -3,19 +3,25 @@
 ghost use Rattle.mux_end.specs.Ends.{KeepsTerms, accepted_end, bytes_read, count_read, emits, end_after, offered_end, on_channel, read_end, with_applied, with_lane, with_state, written_end};
 ghost use Rattle.mux_end.specs.Lane.{Lane, answered_lane, credited_lane, heard_lane, taken_lane};
 ghost use Rattle.mux_end.specs.Stands.{EndValue, MuxStands};
-ghost use Rattle.mux_end.specs.Tests.{lane_accept_refusal, lane_offer_refusal, lane_read_refusal, is_running_state, lane_write_refusal, offer_tests, on_lane, unless_over, unless_stopped};
-ghost use Rattle.mux_items.specs.Bodies.{same_key};
+ghost use Rattle.mux_end.specs.Tests.{lane_accept_refusal, lane_frame_refusal, lane_offer_refusal, lane_read_refusal, is_running_state, lane_write_refusal, offer_tests, on_lane, peer_offer_tests, unless_over, unless_stopped};
+ghost use Rattle.mux_end.specs.Ranges.{IsInRange};
+ghost use Rattle.mux_items.specs.Applying.{heeded_event};
+ghost use Rattle.mux_items.specs.Bodies.{body_of, key_of, same_key};
+ghost use Rattle.mux_items.specs.declared.party.Party.TheVariants.{Neither};
 ghost use Rattle.std.specs.Prelude.{◌≡◌, ◌≤◌, ◌<◌, ◌+◌, ◌-◌, ◌++◌, List, [], ℕ, drop, length, take, true, false, IfOk, OnOk, IfSome, Option, Some, None};
 
 use crate::channel::{Channel, is_bad_window};
 use crate::frames::{push_accepted, push_offer, push_processed};
-use mux_items::ChannelKey;
+use mux_items::{ChannelKey, MuxEvent};
 use std::alloc::Global;
 use std::marker::Model;
-use wire_base::{CallFault, EndState, OutOfMemory, Refusal, Text, Version};
+use wire_base::{CallFault, EndState, Frame, Origin, OutOfMemory, Payload, Reason, Refusal, Text, Version};
 
 /// The most bytes of a channel's name.
 const LONGEST_NAME: usize = 1024;
+
+/// The window of a frame that names none.
+const ABSENT_WINDOW: u64 = 102_400;
 
 /// One end of a multiplexing stream of version 3, with one channel.
 #[derive(Drop)]
@@ -39,6 +45,16 @@ impl Model for MuxEnd {
     ghost view = { λ e. record { version = e.version; nonce = e.nonce; channel = e.channel; output = e.output.items; at = e.at; rest = e.rest.items; state = e.state } };
 
     ghost invariant = { λ e. IsSoundEnd (record { version = e.version; nonce = e.nonce; channel = e.channel; output = e.output.items; at = e.at; rest = e.rest.items; state = e.state }) };
+}
+
+/// The channel that a frame names, as the end that takes it names it.
+fn key_of(frame: &Frame) -> ChannelKey
+    ensures { result ≡ key_of Neither frame.now }
+{
+    ChannelKey {
+        id: frame.id,
+        own: matches!(frame.origin, Origin::Receiver),
+    }
 }
 
 /// The refusal that every call but a read has first.
@@ -216,6 +232,70 @@ impl MuxEnd {
             channel.emit(self.alloc, self.version, &mut self.output)?;
         }
         Ok(())
+    }
+
+    /// Why the peer's offer is refused, if it is.
+    fn peer_offer_refusal(&self, key: ChannelKey) -> Option<Reason>
+        ensures { result ≡ peer_offer_tests self.now.channel key }
+    {
+        if key.own {
+            return Some(Reason::WrongSide);
+        }
+        match &self.channel {
+            None => None,
+            Some(channel) => {
+                if channel.has_key(key) {
+                    Some(Reason::IdInUse)
+                } else {
+                    Some(Reason::NotBuilt)
+                }
+            }
+        }
+    }
+
+    /// Why a frame on this channel is refused, if it is.
+    #[tactic(auto, using(crate::proofs::Taking::nothing_refused))]
+    fn frame_refusal(&self, key: ChannelKey, frame: &Frame) -> Option<Reason>
+        ensures { result ≡ lane_frame_refusal self.now.channel key (body_of frame.now.code frame.now.payload) }
+    {
+        match &frame.payload {
+            Payload::Offer(_, _) => self.peer_offer_refusal(key),
+            Payload::Nothing => Some(Reason::NotBuilt),
+            payload => match &self.channel {
+                None => Some(Reason::NoChannel),
+                Some(channel) => channel.frame_refusal(key, payload),
+            },
+        }
+    }
+
+    /// Takes what a frame that isn't refused says.
+    fn take(&mut self, key: ChannelKey, frame: Frame) -> Result<MuxEvent, OutOfMemory>
+        requires passes { lane_frame_refusal self.old.channel key (body_of frame.code frame.payload) ≡ None }
+        requires ranges { IsInRange frame }
+        requires id { key.id ≡ frame.id }
+        ensures event { IfOk result (λ e. e ≡ heeded_event key (body_of frame.code frame.payload)) }
+        ensures end { OnOk result (self.new ≡ end_after key (body_of frame.code frame.payload) self.old) }
+        ensures terms { KeepsTerms self.old self.new }
+    {
+        match frame.payload {
+            Payload::Offer(_, window) => {
+                self.hear_channel(key, window.unwrap_or(ABSENT_WINDOW));
+                Ok(MuxEvent::Offered(key))
+            }
+            Payload::Accepted(window) => {
+                self.take_answer(window.unwrap_or(ABSENT_WINDOW))?;
+                Ok(MuxEvent::Accepted(key))
+            }
+            Payload::Content(bytes) => {
+                self.take_content(bytes.as_bytes())?;
+                Ok(MuxEvent::Content(key, bytes.as_bytes().len() as u32))
+            }
+            Payload::Processed(count) => {
+                self.take_credit(count)?;
+                Ok(MuxEvent::Credit(key, count))
+            }
+            Payload::Nothing => unreachable!(),
+        }
     }
 
     /// A whole frame of so many bytes was applied.
