@@ -5,3 +5,4 @@ pub mod Tells
 pub mod Lanes
 pub mod Refuses
 pub mod Shows
+pub mod Steps
