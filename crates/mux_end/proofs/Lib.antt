@@ -3,6 +3,7 @@ pub mod Pieces
 pub mod Plain
 pub mod Tells
 pub mod Lanes
+pub mod Ranges
 pub mod Refuses
 pub mod Shows
 pub mod Steps

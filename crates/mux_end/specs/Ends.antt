@@ -1,12 +1,12 @@
 -- What calls and frames make of an end.
-use Rattle.std.specs.Prelude.{◌≡◌, ◌≤◌, ℕ, ◌+◌, List, [], ◌∷◌, ◌++◌, length, drop, Option, Some, None}
+use Rattle.std.specs.Prelude.{◌≡◌, ◌≤◌, ℕ, ◌+◌, List, [], ◌∷◌, ◌++◌, length, drop, take, Option, Some, None}
 use Rattle.wire_base.specs.declared.frame.Version.TheVariants as version
 use Rattle.wire_base.specs.declared.state.EndState.{EndState}
 use Rattle.mux_items.specs.declared.channel.ChannelKey.{ChannelKey}
-use Rattle.mux_items.specs.Bodies.{Offer, OfferAccepted, ChannelFrame, frame_on, frame_texts}
+use Rattle.mux_items.specs.Bodies.{FrameBody, Offer, OfferAccepted, Content, ContentWritingCompleted, ChannelTerminated, ContentProcessed, ChannelFrame, frame_on, frame_texts, window_of}
 use Rattle.mux_items.specs.Due.{content_frames}
 use Rattle.mux_items.specs.Refusals.{most_bytes}
-use Rattle.mux_end.specs.Lane.{Lane, sendable_bytes, with_emitted, offered_lane, heard_lane, accepted_lane, answered_lane, written_lane, taken_lane, credited_lane, read_lane}
+use Rattle.mux_end.specs.Lane.{Lane, sendable_bytes, with_emitted, offered_lane, heard_lane, accepted_lane, answered_lane, written_lane, taken_lane, credited_lane, read_count, read_lane}
 use Rattle.mux_end.specs.Stands.{EndValue}
 use Rattle.mux_end.specs.Tests.{read_frames}
 
@@ -29,30 +29,49 @@ with_lane lane end = record end { channel = Some lane }
 abbrev pub emits : List ChannelFrame → Lane → EndValue → EndValue
 emits first lane end = with_lane (with_emitted lane) (with_frames (first ++ content_frames lane.key (sendable_bytes lane)) end)
 
+-- what becomes of an end that has a channel
+abbrev pub by_lane : Option Lane → EndValue → (Lane → EndValue) → EndValue
+by_lane None end change = end
+by_lane (Some lane) end change = change lane
+
+abbrev pub on_channel : EndValue → (Lane → EndValue) → EndValue
+on_channel end change = by_lane end.channel end change
+
 abbrev pub offered_end : ChannelKey → List ℕ → ℕ → EndValue → EndValue
 offered_end key name size end = with_lane (offered_lane key size) (with_frames (frame_on key (Offer name (Some size)) ∷ []) end)
 
-abbrev pub accepted_end : ℕ → Lane → EndValue → EndValue
-accepted_end size lane end = emits (frame_on lane.key (OfferAccepted (Some size)) ∷ []) (accepted_lane size lane) end
+abbrev pub accepted_end : ℕ → EndValue → EndValue
+accepted_end size end = on_channel end (λ lane. emits (frame_on lane.key (OfferAccepted (Some size)) ∷ []) (accepted_lane size lane) end)
 
-abbrev pub written_end : List ℕ → Lane → EndValue → EndValue
-written_end bytes lane end = emits [] (written_lane bytes lane) end
+abbrev pub written_end : List ℕ → EndValue → EndValue
+written_end bytes end = on_channel end (λ lane. emits [] (written_lane bytes lane) end)
 
-abbrev pub read_end : ℕ → Lane → EndValue → EndValue
-read_end max lane end = with_lane (read_lane max lane) (with_frames (read_frames end.state max lane) end)
+abbrev pub read_end : ℕ → EndValue → EndValue
+read_end max end = on_channel end (λ lane. with_lane (read_lane max lane) (with_frames (read_frames end.state max lane) end))
 
-abbrev pub heard_end : ChannelKey → ℕ → EndValue → EndValue
-heard_end key peer_window end = with_lane (heard_lane key peer_window) end
+-- how many bytes a read moves, and which
+abbrev pub count_read : ℕ → Option Lane → ℕ
+count_read max None = 0
+count_read max (Some lane) = read_count max lane
 
-abbrev pub answered_end : ℕ → Lane → EndValue → EndValue
-answered_end peer_window lane end = emits [] (answered_lane peer_window lane) end
+abbrev pub bytes_read : ℕ → Option Lane → List ℕ
+bytes_read max None = []
+bytes_read max (Some lane) = take max (drop lane.handed lane.taken)
 
-abbrev pub taken_end : List ℕ → Lane → EndValue → EndValue
-taken_end bytes lane end = with_lane (taken_lane bytes lane) end
-
-abbrev pub credited_end : ℕ → Lane → EndValue → EndValue
-credited_end count lane end = emits [] (credited_lane count lane) end
+-- what a taken frame makes of an end
+abbrev pub end_after : ChannelKey → FrameBody → EndValue → EndValue
+end_after key (Offer name size) end = with_lane (heard_lane key (window_of size)) end
+end_after key (OfferAccepted size) end = on_channel end (λ lane. emits [] (answered_lane (window_of size) lane) end)
+end_after key (Content bytes) end = on_channel end (λ lane. with_lane (taken_lane bytes lane) end)
+end_after key ContentWritingCompleted end = end
+end_after key ChannelTerminated end = end
+end_after key (ContentProcessed count) end = on_channel end (λ lane. emits [] (credited_lane count lane) end)
 
 -- a whole frame of so many bytes goes from the front
 abbrev pub with_applied : ℕ → EndValue → EndValue
 with_applied size end = record end { at = end.at + size; rest = drop size end.rest }
+
+-- no call changes the version or the nonce
+pub record KeepsTerms (old new : EndValue) : Type 0 where
+  pub version : new.version ≡ old.version
+  pub nonce : new.nonce ≡ old.nonce

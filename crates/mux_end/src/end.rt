@@ -1,7 +1,7 @@
 //! All that an end keeps, and its calls.
 
-ghost use Rattle.mux_end.specs.Ends.{accepted_end, answered_end, credited_end, heard_end, offered_end, read_end, taken_end, with_applied, with_state, written_end};
-ghost use Rattle.mux_end.specs.Lane.{Lane, read_count};
+ghost use Rattle.mux_end.specs.Ends.{KeepsTerms, accepted_end, bytes_read, count_read, emits, end_after, offered_end, on_channel, read_end, with_applied, with_lane, with_state, written_end};
+ghost use Rattle.mux_end.specs.Lane.{Lane, answered_lane, credited_lane, heard_lane, taken_lane};
 ghost use Rattle.mux_end.specs.Stands.{EndValue, MuxStands};
 ghost use Rattle.mux_end.specs.Tests.{lane_accept_refusal, lane_offer_refusal, lane_read_refusal, is_running_state, lane_write_refusal, offer_tests, on_lane, unless_over, unless_stopped};
 ghost use Rattle.mux_items.specs.Bodies.{same_key};
@@ -107,7 +107,8 @@ impl MuxEnd {
 
     fn write_bytes(&mut self, bytes: &[u8]) -> Result<(), OutOfMemory>
         requires { IfSome self.old.channel (λ lane. length lane.written + length bytes.now ≤ 0x4000000000000000) }
-        ensures { (lane : Lane) → self.old.channel ≡ Some lane → OnOk result (self.new ≡ written_end bytes.now lane self.old) }
+        ensures end { OnOk result (self.new ≡ written_end bytes.now self.old) }
+        ensures terms { KeepsTerms self.old self.new }
     {
         if let Some(channel) = &mut self.channel {
             channel.write(bytes)?;
@@ -122,7 +123,8 @@ impl MuxEnd {
         requires own { key.own ≡ true }
         requires short { length name.now ≤ 1024 }
         requires window { window ≤ 16777216 }
-        ensures { OnOk result (self.new ≡ offered_end key name.now window self.old) }
+        ensures end { OnOk result (self.new ≡ offered_end key name.now window self.old) }
+        ensures terms { KeepsTerms self.old self.new }
     {
         push_offer(self.alloc, self.version, key, name, window, &mut self.output)?;
         self.channel = Some(Channel::offered(self.alloc, key, window));
@@ -133,7 +135,8 @@ impl MuxEnd {
         requires waits { IfSome self.old.channel (λ lane. lane.accepted ≡ false) }
         requires peers { IfSome self.old.channel (λ lane. lane.key.own ≡ false) }
         requires window { window ≤ 16777216 }
-        ensures { (lane : Lane) → self.old.channel ≡ Some lane → OnOk result (self.new ≡ accepted_end window lane self.old) }
+        ensures end { OnOk result (self.new ≡ accepted_end window self.old) }
+        ensures terms { KeepsTerms self.old self.new }
     {
         if let Some(channel) = &mut self.channel {
             push_accepted(self.version, channel.key(), window, &mut self.output)?;
@@ -144,9 +147,10 @@ impl MuxEnd {
     }
 
     fn read_bytes(&mut self, max: usize, out: &mut Vec<u8>) -> Result<usize, OutOfMemory>
-        ensures count { (lane : Lane) → self.old.channel ≡ Some lane → IfOk result (λ n. n ≡ read_count max lane) }
-        ensures end { (lane : Lane) → self.old.channel ≡ Some lane → OnOk result (self.new ≡ read_end max lane self.old) }
-        ensures bytes { (lane : Lane) → self.old.channel ≡ Some lane → OnOk result (out.new.items ≡ out.old.items ++ take max (drop lane.handed lane.taken)) }
+        ensures count { IfOk result (λ n. n ≡ count_read max self.old.channel) }
+        ensures end { OnOk result (self.new ≡ read_end max self.old) }
+        ensures bytes { OnOk result (out.new.items ≡ out.old.items ++ bytes_read max self.old.channel) }
+        ensures terms { KeepsTerms self.old self.new }
     {
         let running = self.is_running();
         let Some(channel) = &mut self.channel else {
@@ -173,7 +177,7 @@ impl MuxEnd {
         requires id_below { key.id < 0x8000000000000000 }
         requires peers { key.own ≡ false }
         requires window { peer_window < 0x8000000000000000 }
-        ensures { self.new ≡ heard_end key peer_window self.old }
+        ensures { self.new ≡ with_lane (heard_lane key peer_window) self.old }
     {
         self.channel = Some(Channel::heard(self.alloc, key, peer_window));
     }
@@ -182,7 +186,8 @@ impl MuxEnd {
         requires waits { IfSome self.old.channel (λ lane. lane.accepted ≡ false) }
         requires own { IfSome self.old.channel (λ lane. lane.key.own ≡ true) }
         requires window { peer_window < 0x8000000000000000 }
-        ensures { (lane : Lane) → self.old.channel ≡ Some lane → OnOk result (self.new ≡ answered_end peer_window lane self.old) }
+        ensures end { OnOk result (self.new ≡ on_channel self.old (λ lane. emits [] (answered_lane peer_window lane) self.old)) }
+        ensures terms { KeepsTerms self.old self.new }
     {
         if let Some(channel) = &mut self.channel {
             channel.answer(peer_window);
@@ -192,7 +197,8 @@ impl MuxEnd {
     }
 
     fn take_content(&mut self, bytes: &[u8]) -> Result<(), OutOfMemory>
-        ensures { (lane : Lane) → self.old.channel ≡ Some lane → OnOk result (self.new ≡ taken_end bytes.now lane self.old) }
+        ensures end { OnOk result (self.new ≡ on_channel self.old (λ lane. with_lane (taken_lane bytes.now lane) self.old)) }
+        ensures terms { KeepsTerms self.old self.new }
     {
         if let Some(channel) = &mut self.channel {
             channel.take(bytes)?;
@@ -202,7 +208,8 @@ impl MuxEnd {
 
     fn take_credit(&mut self, count: u64) -> Result<(), OutOfMemory>
         requires { IfSome self.old.channel (λ lane. lane.acknowledged + count ≤ lane.emitted) }
-        ensures { (lane : Lane) → self.old.channel ≡ Some lane → OnOk result (self.new ≡ credited_end count lane self.old) }
+        ensures end { OnOk result (self.new ≡ on_channel self.old (λ lane. emits [] (credited_lane count lane) self.old)) }
+        ensures terms { KeepsTerms self.old self.new }
     {
         if let Some(channel) = &mut self.channel {
             channel.credit(count);

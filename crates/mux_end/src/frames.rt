@@ -1,14 +1,18 @@
-//! The frames that an end sends.
+//! The frames that an end sends and takes.
 
-ghost use Rattle.frame_text.specs.Codec.{is_packed};
+ghost use Rattle.frame_text.specs.Codec.{Decodes, is_packed};
 ghost use Rattle.frame_text.specs.Frames.{fits, text};
+ghost use Rattle.frame_text.specs.Reading.{front};
+ghost use Rattle.mux_end.specs.Ranges.{IsStepInRange};
 ghost use Rattle.mux_items.specs.Bodies.{Content, ContentProcessed, Offer, OfferAccepted, frame_on, frame_text, frame_texts, origin_of};
 ghost use Rattle.mux_items.specs.Due.{content_frames};
-ghost use Rattle.std.specs.Prelude.{◌≡◌, ◌≤◌, ◌<◌, ◌++◌, length, true, OnOk, IfOk, Some};
+ghost use Rattle.std.specs.Prelude.{◌≡◌, ◌≤◌, ◌<◌, ◌++◌, ◌^◌, length, true, OnOk, IfOk, Some};
 
+use frame_pack::PackCodec;
+use frame_text::FrameCodec;
 use mux_items::ChannelKey;
 use std::alloc::Global;
-use wire_base::{Blob, Code, Frame, Origin, OutOfMemory, Payload, Text, Version};
+use wire_base::{Blob, Code, Frame, FrameStep, Origin, OutOfMemory, Payload, Place, Text, Version};
 
 /// The most bytes of one content frame.
 const PIECE_SIZE: usize = 20_480;
@@ -39,12 +43,23 @@ fn frame(version: Version, key: ChannelKey, code: Code, payload: Payload) -> Fra
     }
 }
 
-fn push_frame(_version: Version, _frame: &Frame, _out: &mut Vec<u8>) -> Result<(), OutOfMemory>
-    requires packed { is_packed _version ≡ true }
-    requires fits { fits _version _frame.now ≡ true }
-    ensures { OnOk result (_out.new.items ≡ _out.old.items ++ text _version _frame.now) }
+fn push_frame(version: Version, frame: &Frame, out: &mut Vec<u8>) -> Result<(), OutOfMemory>
+    requires packed { is_packed version ≡ true }
+    requires fits { fits version frame.now ≡ true }
+    ensures { OnOk result (out.new.items ≡ out.old.items ++ text version frame.now) }
 {
-    Err(OutOfMemory)
+    PackCodec::new(version).encode(frame, out)
+}
+
+/// What stands at the front of the bytes, of which the first stands at this place.
+#[tactic(auto, using(crate::proofs::Ranges::ranges))]
+pub fn first_frame(alloc: Global, version: Version, bytes: &[u8], at: Place) -> FrameStep
+    requires packed { is_packed version ≡ true }
+    requires near { at.0 ≤ 2 ^ 63 }
+    ensures front { Decodes result bytes.now at (front version bytes.now) }
+    ensures ranges { IsStepInRange result }
+{
+    PackCodec::new(version).decode(alloc, bytes, at)
 }
 
 /// Writes an offer at the end of the output.
