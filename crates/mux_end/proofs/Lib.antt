@@ -7,3 +7,4 @@ pub mod Ranges
 pub mod Refuses
 pub mod Shows
 pub mod Taking
+pub mod Steps
