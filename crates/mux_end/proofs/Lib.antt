@@ -8,3 +8,4 @@ pub mod Refuses
 pub mod Shows
 pub mod Taking
 pub mod Steps
+pub mod Answering
