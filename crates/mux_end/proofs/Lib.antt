@@ -7,3 +7,4 @@ pub mod Ranges
 pub mod Refuses
 pub mod Shows
 pub mod Steps
+pub mod Answers
