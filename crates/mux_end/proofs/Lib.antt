@@ -6,5 +6,6 @@ pub mod Lanes
 pub mod Ranges
 pub mod Refuses
 pub mod Shows
+pub mod Taking
 pub mod Steps
 pub mod Answers
