@@ -9,3 +9,4 @@ pub mod Shows
 pub mod Taking
 pub mod Steps
 pub mod Answering
+pub mod Answers

@@ -8,6 +8,7 @@ use Rattle.wire_base.specs.declared.frame.Version.{Version}
 use Rattle.wire_base.specs.declared.frame.Version.TheVariants as version
 use Rattle.wire_base.specs.declared.refusal.Refusal.{Refusal}
 use Rattle.wire_base.specs.declared.reason.Reason.{Reason}
+use Rattle.wire_base.specs.declared.reason.Reason.TheVariants as reason
 use Rattle.wire_base.specs.declared.fault.CallFault.{CallFault}
 use Rattle.wire_base.specs.declared.fault.CallFault.TheVariants as fault
 use Rattle.wire_base.specs.declared.state.Cause.{Cause}
@@ -18,14 +19,14 @@ use Rattle.mux_items.specs.Bodies.{FrameBody, Offer, OfferAccepted, Content, Con
 use Rattle.mux_items.specs.Items.{Item, DidOffer, DidAccept, DidWrite, DidRead, Got, End, ended, is_running}
 use Rattle.mux_items.specs.Lists.{termination_emitted, unread}
 use Rattle.mux_items.specs.Kept.{keys, is_known, kept_keys, next_key, most_channels}
-use Rattle.mux_items.specs.Refusals.{offer_refusal, accept_refusal, write_refusal, read_refusal, frame_refusal}
+use Rattle.mux_items.specs.Refusals.{offer_refusal, accept_refusal, write_refusal, read_refusal, later_refusal, frame_refusal}
 use Rattle.mux_items.specs.Views.{view_of, tally_of, known_keys}
 use Rattle.mux_items.specs.Due.{content_frames, due}
 use Rattle.mux_items.specs.Applying.{is_offer, is_refused_room, heeded_event, frame_event, event_of, Allowed}
 use Rattle.mux_end.specs.Lane.{Lane, lane_of, lane_of_keys, channel_of, offered_lane, heard_lane, sendable_bytes, with_emitted, accepted_lane, answered_lane, written_lane, taken_lane, credited_lane, read_lane}
 use Rattle.mux_end.specs.Stands.{EndValue, IsBuilt, MuxStands, is_built_body, is_built_item, state_by, state_of}
 use Rattle.mux_end.specs.Replies.{Adds, CallAnswers, built_refusal, second_offer, reason_or}
-use Rattle.mux_end.specs.Tests.{lane_offer_refusal, lane_accept_refusal, lane_write_refusal, lane_read_refusal, lane_frame_refusal, lane_view, lane_tally, lane_known, read_frames}
+use Rattle.mux_end.specs.Tests.{unless_over, peer_offer_tests, lane_offer_refusal, lane_accept_refusal, lane_write_refusal, lane_read_refusal, lane_frame_refusal, lane_view, lane_tally, lane_known, read_frames}
 use Rattle.mux_end.specs.Ends.{with_state, with_frames, with_lane, emits, by_lane, on_channel, offered_end, accepted_end, written_end, read_end, end_after, with_applied}
 use Rattle.mux_end.proofs.Plain.{same_key-refl, same_key-true, is_known-one, termination_emitted-built, unread-built}
 use Rattle.mux_end.proofs.Tells.{accept_tells, write_tells, read_tells, offer_tells, peer_offer_tells, acceptance_tells, later_tells, known_one, unknown}
@@ -216,3 +217,168 @@ adds_read old items at rest key max s three ok =
     by_channel (λ channel. Adds old (by_lane channel old (λ lane. with_lane (read_lane max lane) (with_frames (read_frames old.state max lane) old))) items at rest (DidRead key max)) old.channel
       (λ e. no_lane old items at rest key s three e (read_tells version.Three key items s.built.each none).0)
       (λ lane e. reads_lane old items at rest lane key max s three e none)
+
+-- frames of the peer
+running_by : (e : Option Cause) → state_by e ≡ state.Running → is_none e ≡ true
+running_by None is = refl
+running_by (Some cause) is = absurd (cc)
+
+pub running_of : (old : EndValue) (items : List Item) (at : ℕ) (rest : List ℕ) → MuxStands old items at rest → old.state ≡ state.Running → is_running items ≡ true
+running_of old items at rest s is = running_by (ended items) (sym s.state ∙ is)
+
+pub ended_none : (e : Option Cause) → is_none e ≡ true → e ≡ None
+ended_none None is = refl
+ended_none (Some cause) is = absurd (cc)
+
+reason_or-none : (r s : Option Reason) → reason_or r s ≡ None → (r ≡ None) × (s ≡ None)
+reason_or-none None s e = (refl, e)
+reason_or-none (Some r) s e = absurd (cc)
+
+room_left : (body : FrameBody) (items : List Item) → IsBuilt items → is_refused_room version.Three body items ≡ false
+room_left body items built =
+    let few = kept_keys_few items built in
+    and_right (is_offer body) (nat_le most_channels (length (kept_keys version.Three items))) (lt-leb most_channels (length (kept_keys version.Three items)) (omega arith))
+
+refused_twice : (own same : Bool) → (if own then Some reason.WrongSide else if same then Some reason.IdInUse else Some reason.NotBuilt) ≡ None → ⊥
+refused_twice true same e = cc
+refused_twice false true e = cc
+refused_twice false false e = cc
+
+quiet : (old : EndValue) → old.output ≡ old.output ++ frame_texts old.version []
+quiet old = sym (append-nil old.output)
+
+built_none : (old : EndValue) (items : List Item) (at : ℕ) (rest : List ℕ) (key : ChannelKey) (body : FrameBody) → MuxStands old items at rest → old.version ≡ version.Three
+    → lane_frame_refusal old.channel key body ≡ None → built_refusal version.Three key body items ≡ None
+built_none old items at rest key body s three ok = ap (λ v. built_refusal v key body items) (sym three) ∙ (refuses_frame old items at rest key body s three ∙ ok)
+
+hears : (old : EndValue) (items : List Item) (at : ℕ) (rest : List ℕ) (place : ℕ) (key : ChannelKey) (name : List ℕ) (size : Option ℕ) → MuxStands old items at rest → old.version ≡ version.Three → old.state ≡ state.Running
+    → old.channel ≡ None → lane_frame_refusal old.channel key (Offer name size) ≡ None
+    → Adds old (with_lane (heard_lane key (window_of size)) old) items at rest (Got place key (Offer name size))
+hears old items at rest place key name size s three run none ok =
+    let running = running_of old items at rest s run in
+    let empty = keys_none old items at rest s three none in
+    let allowed = allowed_at old items at rest s three in
+    let good = (reason_or-none (frame_refusal version.Three key (Offer name size) items) _ (built_none old items at rest key (Offer name size) s three ok)).0 in
+    adds_by old (with_lane (heard_lane key (window_of size)) old) items at rest (Got place key (Offer name size)) [] s three
+      (record { each = s.built.each; one = let few = ap length empty in omega arith }) (running, good, room_left (Offer name size) items s.built, allowed)
+      (ap Some (sym (lane_heard place key name size items s.built.each allowed running empty))) s.state
+      (due_heard place key name size items s.built.each allowed running empty) (quiet old) refl refl refl refl
+
+answers_same : (old : EndValue) (items : List Item) (at : ℕ) (rest : List ℕ) (place : ℕ) (c : ChannelKey) (size : Option ℕ) → MuxStands old items at rest → old.version ≡ version.Three → is_running items ≡ true → keys items ≡ c ∷ []
+    → frame_refusal version.Three c (OfferAccepted size) items ≡ None
+    → Adds old (emits [] (answered_lane (window_of size) (lane_of version.Three c items)) old) items at rest (Got place c (OfferAccepted size))
+answers_same old items at rest place c size s three running one ok =
+    adds_by old (emits [] (answered_lane (window_of size) (lane_of version.Three c items)) old) items at rest (Got place c (OfferAccepted size)) _ s three
+      (record { each = s.built.each; one = s.built.one }) (running, ok, room_left (OfferAccepted size) items s.built, allowed_at old items at rest s three)
+      (ap Some (sym (lane_answered place c size items s.built.each running)) ∙ sym (channel_one version.Three c (Got place c (OfferAccepted size) ∷ items) one)) s.state
+      (due_answered place c size items s.built.each running) refl refl refl refl refl
+
+takes_same : (old : EndValue) (items : List Item) (at : ℕ) (rest : List ℕ) (place : ℕ) (c : ChannelKey) (bytes : List ℕ) → MuxStands old items at rest → old.version ≡ version.Three → is_running items ≡ true → keys items ≡ c ∷ []
+    → frame_refusal version.Three c (Content bytes) items ≡ None
+    → Adds old (with_lane (taken_lane bytes (lane_of version.Three c items)) old) items at rest (Got place c (Content bytes))
+takes_same old items at rest place c bytes s three running one ok =
+    adds_by old (with_lane (taken_lane bytes (lane_of version.Three c items)) old) items at rest (Got place c (Content bytes)) [] s three
+      (record { each = s.built.each; one = s.built.one }) (running, ok, room_left (Content bytes) items s.built, allowed_at old items at rest s three)
+      (ap Some (sym (lane_took place c bytes items s.built.each running)) ∙ sym (channel_one version.Three c (Got place c (Content bytes) ∷ items) one)) s.state
+      (due_took place c bytes items s.built.each running) (quiet old) refl refl refl refl
+
+credits_same : (old : EndValue) (items : List Item) (at : ℕ) (rest : List ℕ) (place : ℕ) (c : ChannelKey) (count : ℕ) → MuxStands old items at rest → old.version ≡ version.Three → is_running items ≡ true → keys items ≡ c ∷ []
+    → frame_refusal version.Three c (ContentProcessed count) items ≡ None
+    → Adds old (emits [] (credited_lane count (lane_of version.Three c items)) old) items at rest (Got place c (ContentProcessed count))
+credits_same old items at rest place c count s three running one ok =
+    adds_by old (emits [] (credited_lane count (lane_of version.Three c items)) old) items at rest (Got place c (ContentProcessed count)) _ s three
+      (record { each = s.built.each; one = s.built.one }) (running, ok, room_left (ContentProcessed count) items s.built, allowed_at old items at rest s three)
+      (ap Some (sym (lane_credited place c count items s.built.each running)) ∙ sym (channel_one version.Three c (Got place c (ContentProcessed count) ∷ items) one)) s.state
+      (due_credited place c count items s.built.each running) refl refl refl refl refl
+
+-- a frame on the channel, by what it makes of the lane
+on_kept : (old : EndValue) (items : List Item) (at : ℕ) (rest : List ℕ) (place : ℕ) (key : ChannelKey) (body : FrameBody) (change : Lane → EndValue) → MuxStands old items at rest → old.version ≡ version.Three
+    → is_known key items ≡ true → ((c : ChannelKey) → keys items ≡ c ∷ [] → key ≡ c → Adds old (change (lane_of version.Three c items)) items at rest (Got place c body))
+    → Adds old (on_channel old change) items at rest (Got place key body)
+on_kept old items at rest place key body change s three known same =
+    by_channel (λ channel. Adds old (by_lane channel old change) items at rest (Got place key body)) old.channel
+      (λ e. no_lane old items at rest key s three e known)
+      (λ lane e.
+        let w = keys_one old items at rest lane s three e in
+        let is = known_one key w.0 items w.1 known in
+        subst (λ l. Adds old (change l) items at rest (Got place key body)) (sym w.2) (subst (λ k. Adds old (change (lane_of version.Three w.0 items)) items at rest (Got place k body)) (sym is) (same w.0 w.1 is)))
+
+later_known : (old : EndValue) (items : List Item) (at : ℕ) (rest : List ℕ) (key : ChannelKey) (body : FrameBody) → MuxStands old items at rest
+    → later_refusal version.Three key body items ≡ None → is_known key items ≡ true
+later_known old items at rest key body s ok = (later_tells version.Three key body items s.built.each ok).0
+
+-- a frame that the channel doesn't refuse
+pub adds_taken : (old : EndValue) (items : List Item) (at : ℕ) (rest : List ℕ) (place : ℕ) (key : ChannelKey) (body : FrameBody) → MuxStands old items at rest → old.version ≡ version.Three → old.state ≡ state.Running
+    → lane_frame_refusal old.channel key body ≡ None → Adds old (end_after key body old) items at rest (Got place key body)
+adds_taken old items at rest place key (Offer name size) s three run ok =
+    hears old items at rest place key name size s three run (no_second old.channel key ok) ok
+  where
+    no_second : (channel : Option Lane) (key : ChannelKey) → peer_offer_tests channel key ≡ None → channel ≡ None
+    no_second None key e = refl
+    no_second (Some lane) key e = absurd (refused_twice key.own (same_key key lane.key) e)
+adds_taken old items at rest place key (OfferAccepted size) s three run ok =
+    let good = (reason_or-none (frame_refusal version.Three key (OfferAccepted size) items) None (built_none old items at rest key (OfferAccepted size) s three ok)).0 in
+    on_kept old items at rest place key (OfferAccepted size) (λ lane. emits [] (answered_lane (window_of size) lane) old) s three (later_known old items at rest key (OfferAccepted size) s good)
+      (λ c one is. answers_same old items at rest place c size s three (running_of old items at rest s run) one (ap (λ k. frame_refusal version.Three k (OfferAccepted size) items) (sym is) ∙ good))
+adds_taken old items at rest place key (Content bytes) s three run ok =
+    let good = (reason_or-none (frame_refusal version.Three key (Content bytes) items) None (built_none old items at rest key (Content bytes) s three ok)).0 in
+    on_kept old items at rest place key (Content bytes) (λ lane. with_lane (taken_lane bytes lane) old) s three (later_known old items at rest key (Content bytes) s good)
+      (λ c one is. takes_same old items at rest place c bytes s three (running_of old items at rest s run) one (ap (λ k. frame_refusal version.Three k (Content bytes) items) (sym is) ∙ good))
+adds_taken old items at rest place key ContentWritingCompleted s three run ok = absurd (cc)
+adds_taken old items at rest place key ChannelTerminated s three run ok = absurd (cc)
+adds_taken old items at rest place key (ContentProcessed count) s three run ok =
+    let good = (reason_or-none (frame_refusal version.Three key (ContentProcessed count) items) None (built_none old items at rest key (ContentProcessed count) s three ok)).0 in
+    on_kept old items at rest place key (ContentProcessed count) (λ lane. emits [] (credited_lane count lane) old) s three (later_known old items at rest key (ContentProcessed count) s good)
+      (λ c one is. credits_same old items at rest place c count s three (running_of old items at rest s run) one (ap (λ k. frame_refusal version.Three k (ContentProcessed count) items) (sym is) ∙ good))
+
+-- the frame's bytes go from the front
+pub adds_applied : (old new : EndValue) (items : List Item) (at : ℕ) (rest : List ℕ) (item : Item) (size : ℕ) → Adds old new items at rest item → Adds old (with_applied size new) items (at + size) (drop size rest) item
+adds_applied old new items at rest item size a = record {
+  stands = record {
+    channel = a.stands.channel;
+    at_is = ap (λ n. n + size) a.stands.at_is;
+    rest_is = ap (drop size) a.stands.rest_is;
+    state = a.stands.state;
+    built = a.stands.built;
+    allowed = a.stands.allowed;
+  };
+  output = a.output;
+  version = a.version;
+  nonce = a.nonce;
+}
+
+-- the end
+channel_end : (cause : Cause) (ks : List ChannelKey) (items : List Item) → lane_of_keys version.Three ks items ≡ lane_of_keys version.Three ks (End cause ∷ items)
+channel_end cause [] items = refl
+channel_end cause (c ∷ ks) items = refl
+
+pub adds_ended : (old : EndValue) (items : List Item) (at : ℕ) (rest : List ℕ) (cause : Cause) → MuxStands old items at rest → old.version ≡ version.Three → old.state ≡ state.Running
+    → Adds old (with_state (state.Ended cause) old) items at rest (End cause)
+adds_ended old items at rest cause s three run =
+    adds_by old (with_state (state.Ended cause) old) items at rest (End cause) [] s three
+      (record { each = s.built.each; one = s.built.one }) (running_of old items at rest s run, allowed_at old items at rest s three)
+      (channel_at old items at rest s three ∙ channel_end cause (keys items) items) refl refl (quiet old) refl refl refl refl
+
+-- the first own offer
+pub next_key_is : (old : EndValue) (items : List Item) (at : ℕ) (rest : List ℕ) → MuxStands old items at rest → old.version ≡ version.Three → old.state ≡ state.Running → old.channel ≡ None
+    → (let first : ChannelKey = record { id = 1; own = true } in next_key items ≡ first)
+next_key_is old items at rest s three run none =
+    next_key-none items s.built.each (allowed_at old items at rest s three) (running_of old items at rest s run) (keys_none old items at rest s three none)
+
+over_running : (stands : EndState) (r : Option Refusal) → unless_over stands r ≡ None → stands ≡ state.Running
+over_running state.Running r e = refl
+over_running (state.Ended cause) r e = absurd (cc)
+over_running state.Stopped r e = absurd (cc)
+
+pub adds_offered : (old : EndValue) (items : List Item) (at : ℕ) (rest : List ℕ) (key : ChannelKey) (name : List ℕ) (size : ℕ) → MuxStands old items at rest → old.version ≡ version.Three → old.channel ≡ None
+    → (let first : ChannelKey = record { id = 1; own = true } in key ≡ first) → lane_offer_refusal old.state name size ≡ None → Adds old (offered_end key name size old) items at rest (DidOffer key name size)
+adds_offered old items at rest key name size s three none is ok =
+    let run = over_running old.state _ ok in
+    let running = running_of old items at rest s run in
+    let empty = keys_none old items at rest s three none in
+    let allowed = allowed_at old items at rest s three in
+    let good : offer_refusal version.Three name size items ≡ None = ap (λ v. offer_refusal v name size items) (sym three) ∙ (refuses_offer old items at rest name size s three ∙ ok) in
+    adds_by old (offered_end key name size old) items at rest (DidOffer key name size) _ s three
+      (record { each = s.built.each; one = let few = ap length empty in omega arith }) (good, is ∙ sym (next_key_is old items at rest s three run none), allowed)
+      (ap Some (sym (lane_offered key name size items s.built.each allowed running empty))) s.state
+      (due_offered key name size items s.built.each allowed running empty) refl refl refl refl refl
