@@ -8,5 +8,6 @@ pub mod Refuses
 pub mod Shows
 pub mod Taking
 pub mod Steps
-pub mod Answering
 pub mod Answers
+pub mod Stepping
+pub mod Reading
