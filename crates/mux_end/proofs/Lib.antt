@@ -6,3 +6,8 @@ pub mod Lanes
 pub mod Ranges
 pub mod Refuses
 pub mod Shows
+pub mod Taking
+pub mod Steps
+pub mod Answers
+pub mod Stepping
+pub mod Reading

@@ -1,5 +1,5 @@
 -- The numbers of a frame that was read are in their ranges.
-use Rattle.std.proofs.Common.{◌≡◌, ℕ, ◌+◌, ◌<◌, Bool, true, false, cond, List, length, Option, Some, None, Result, Ok, Err, refl, arith, subst}
+use Rattle.std.proofs.Common.{◌≡◌, ℕ, ◌+◌, ◌<◌, ◌≤◌, Bool, true, false, cond, List, length, Option, Some, None, Result, Ok, Err, refl, arith, subst}
 use Rattle.std.specs.Prelude.{◌==◌, ◌&&◌, nat_lt, ℤ, pos, negsuc, IfSome}
 use Rattle.std.proofs.lemmas.Bool.{ltb-true, and_parts}
 use Rattle.wire_base.specs.declared.frame.Version.{Version}
@@ -17,6 +17,7 @@ use Rattle.frame_text.specs.declared.fault.Fault.TheVariants.{Ends, Breaks}
 use Rattle.frame_text.specs.Codec.{is_packed}
 use Rattle.frame_text.specs.Front.{Front, Whole, Short, Broken}
 use Rattle.frame_text.specs.Reading.{Reading, Reader, follow, ◌>>=◌, done, Sort, a_number, an_array, allowed, head_at, token_at, inside, inner_at, code_in, id_in, count_in, last_in, only, name_at, optional_at, offer_at, accepted_at, processed_at, spoiled, ended, carried, placed, payload_at, content_at, elements, origin_at, packed_at, frame_at, front_of, front}
+use Rattle.frame_text.proofs.Within.{IsRun, payload_at-is}
 use Rattle.mux_end.specs.Ranges.{IsCounted, IsInRange}
 
 -- what is read is so
@@ -127,14 +128,25 @@ ended-made reason (Err fault) h = tt
 ended-made reason (Ok x) h =
     elim (length x.1 == 0) as (λ t. Made IsCounted (cond t (Ok x.0) (Err (Breaks (length x.1) (spoiled reason (head_of x.1)))))) [ true ↦ h | false ↦ tt ]
 
-carried-made : (c : Code) (bytes : List ℕ) → Made IsCounted (carried c bytes)
+abbrev IsShort : List ℕ → Type 0
+IsShort bytes = length bytes ≤ 0x100000
+
+run-short : (total : ℕ) (r : Reading (List ℕ)) → IsRun 0x100000 total r → Holds IsShort r
+run-short total (Ok x) h = h.2
+run-short total (Err Ends) h = tt
+run-short total (Err (Breaks left reason)) h = tt
+
+payload_at-reads : (present : Bool) → Reads IsShort (payload_at present)
+payload_at-reads present = record { at = λ bytes. run-short (length bytes) (payload_at present bytes) (payload_at-is present bytes) }
+
+carried-made : (c : Code) (bytes : List ℕ) → IsShort bytes → Made IsCounted (carried c bytes)
 unfolding carried
-carried-made code.Offer bytes = ended-made BadOffer (offer_at bytes) (offer_at-reads.at bytes)
-carried-made code.OfferAccepted bytes = ended-made BadAcceptance (accepted_at bytes) (accepted_at-reads.at bytes)
-carried-made code.Content bytes = tt
-carried-made code.ContentWritingCompleted bytes = tt
-carried-made code.ChannelTerminated bytes = tt
-carried-made code.ContentProcessed bytes = ended-made BadProcessed (processed_at bytes) (processed_at-reads.at bytes)
+carried-made code.Offer bytes short = ended-made BadOffer (offer_at bytes) (offer_at-reads.at bytes)
+carried-made code.OfferAccepted bytes short = ended-made BadAcceptance (accepted_at bytes) (accepted_at-reads.at bytes)
+carried-made code.Content bytes short = short
+carried-made code.ContentWritingCompleted bytes short = tt
+carried-made code.ChannelTerminated bytes short = tt
+carried-made code.ContentProcessed bytes short = ended-made BadProcessed (processed_at bytes) (processed_at-reads.at bytes)
 
 placed-holds : (r : Result Payload Fault) (rest : List ℕ) → Made IsCounted r → Holds IsCounted (placed r rest)
 placed-holds (Ok x) rest h = h
@@ -144,7 +156,7 @@ placed-holds (Err (Breaks left reason)) rest h = tt
 content_at-reads : (present : Bool) (c : Code) → Reads IsCounted (content_at present c)
 unfolding content_at
 content_at-reads present c =
-    reads-then Anything IsCounted (payload_at present) (λ bytes. placed (carried c bytes)) (reads-anything _) (λ bytes _. record { at = λ rest. placed-holds (carried c bytes) rest (carried-made c bytes) })
+    reads-then IsShort IsCounted (payload_at present) (λ bytes. placed (carried c bytes)) (payload_at-reads present) (λ bytes short. record { at = λ rest. placed-holds (carried c bytes) rest (carried-made c bytes short) })
 
 packed_at-reads : (v : Version) → Reads IsInRange (packed_at v)
 unfolding packed_at

@@ -93,7 +93,7 @@ peer_offer_tells v c name size items e =
     let fresh = none_then (is_offered c items) reason.IdInUse None side.1 in
     (side.0, fresh.0)
 
-later_tells : (v : Version) (c : ChannelKey) (body : FrameBody) (items : List Item) → list_all is_built_item items ≡ true → later_refusal v c body items ≡ None
+pub later_tells : (v : Version) (c : ChannelKey) (body : FrameBody) (items : List Item) → list_all is_built_item items ≡ true → later_refusal v c body items ≡ None
     → (is_known c items ≡ true) × (heeded_refusal v c body items ≡ None)
 later_tells v c body items each e =
     let offered = none_then (not (is_offered c items)) reason.NoChannel _ e in
@@ -127,7 +127,7 @@ processed_tells v c count items each e =
     (later.0, ltb-false (emitted v c items) (acknowledged v c items + count) within.0)
 
 -- where no channel was offered and the end runs, nothing has happened
-unknown : {A : Type 0} (d : ChannelKey) (items : List Item) → keys items ≡ [] → is_known d items ≡ true → A
+pub unknown : {A : Type 0} (d : ChannelKey) (items : List Item) → keys items ≡ [] → is_known d items ≡ true → A
 unknown d items none known = absurd (false≢true (sym (is_known-none d items none) ∙ known))
 
 pub none_before : (v : Version) (items : List Item) → list_all is_built_item items ≡ true → Allowed v items → is_running items ≡ true → keys items ≡ [] → items ≡ []

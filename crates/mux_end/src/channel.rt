@@ -3,6 +3,7 @@
 ghost use Rattle.frame_text.specs.Codec.{is_packed};
 ghost use Rattle.mux_end.specs.Lane.{accepted_lane, answered_lane, credited_lane, heard_lane, offered_lane, read_count, read_lane, sendable, sendable_bytes, taken_lane, with_emitted, written_lane};
 ghost use Rattle.mux_end.specs.Tests.{accept_tests, acceptance_tests, content_tests, lane_phase, pending_in, processed_tests, read_tests, shown_lane, tally_in, write_tests};
+ghost use Rattle.mux_end.specs.Ends.{payload_tests};
 ghost use Rattle.mux_items.specs.Bodies.{frame_texts, same_key};
 ghost use Rattle.mux_items.specs.Due.{content_frames};
 ghost use Rattle.mux_items.specs.Refusals.{is_bad_window};
@@ -12,7 +13,7 @@ use crate::frames::push_content;
 use mux_items::{ChannelKey, ChannelView, Phase, Tally};
 use std::alloc::Global;
 use std::marker::Model;
-use wire_base::{EndState, OutOfMemory, Reason, Refusal, Version};
+use wire_base::{EndState, OutOfMemory, Payload, Reason, Refusal, Version};
 
 /// The most bytes that are written on a channel.
 const MOST_BYTES: usize = 0x4000_0000_0000_0000;
@@ -117,7 +118,7 @@ impl Channel {
     }
 
     /// Why the peer's acceptance is refused, if it is.
-    pub fn acceptance_refusal(&self, key: ChannelKey) -> Option<Reason>
+    fn acceptance_refusal(&self, key: ChannelKey) -> Option<Reason>
         ensures { result ≡ acceptance_tests key self.now }
     {
         if !key.own {
@@ -130,7 +131,7 @@ impl Channel {
     }
 
     /// Why the peer's content is refused, if it is.
-    pub fn content_refusal(&self, bytes: &[u8]) -> Option<Reason>
+    fn content_refusal(&self, bytes: &[u8]) -> Option<Reason>
         ensures { result ≡ content_tests bytes.now self.now }
     {
         if !self.accepted {
@@ -143,13 +144,28 @@ impl Channel {
     }
 
     /// Why the peer's acknowledgement is refused, if it is.
-    pub fn processed_refusal(&self, count: u64) -> Option<Reason>
+    fn processed_refusal(&self, count: u64) -> Option<Reason>
         ensures { result ≡ processed_tests count self.now }
     {
         if self.emitted as u64 - self.acknowledged < count {
             Some(Reason::OverAcknowledged)
         } else {
             None
+        }
+    }
+
+    /// Why a frame with this payload, which isn't an offer and isn't empty, is refused, if it is.
+    pub fn frame_refusal(&self, key: ChannelKey, payload: &Payload) -> Option<Reason>
+        ensures { result ≡ payload_tests key payload.now self.now }
+    {
+        if !self.has_key(key) {
+            return Some(Reason::NoChannel);
+        }
+        match payload {
+            Payload::Accepted(_) => self.acceptance_refusal(key),
+            Payload::Content(bytes) => self.content_refusal(bytes.as_bytes()),
+            Payload::Processed(count) => self.processed_refusal(*count),
+            Payload::Offer(_, _) | Payload::Nothing => None,
         }
     }
 

@@ -4,3 +4,8 @@
 mod channel;
 mod end;
 mod frames;
+mod step;
+
+pub use end::MuxEnd;
+pub use mux_items::{ChannelKey, ChannelView, MuxEvent, Phase, Tally};
+pub use step::MuxStep;
