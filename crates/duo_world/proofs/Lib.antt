@@ -1,0 +1,5 @@
+pub mod Sayings
+pub mod Fronts
+pub mod Settling
+pub mod Going
+pub mod Calls

@@ -1,1 +1,4 @@
+pub mod Sayable
 pub mod Holding
+pub mod Settling
+pub mod Stepping

@@ -1,0 +1,157 @@
+-- A call of an end.
+use Rattle.std.specs.Prelude.{if◌then◌else◌, nat_lt, nat_le, not, ◌&&◌, ◌||◌, min, Bool, true, false, IsUtf8}
+use Rattle.std.specs.Str.{is_utf8}
+use Rattle.std.proofs.Common.{◌≡◌, ℕ, ◌+◌, ◌-◌, ◌*◌, ◌^◌, ◌<◌, ◌≤◌, List, [], ◌∷◌, ◌++◌, length, take, drop, refl, sym, ◌∙◌, ap, subst, inl, inr, arith, Option, Some, None, Result, Ok, Err}
+use Rattle.std.proofs.lemmas.Bool.{cases_Bool, and_parts, not-false, ltb-false, leb-false}
+use Rattle.std.proofs.lemmas.Str.{is_utf8-from_IsUtf8}
+use Rattle.wire_base.specs.declared.frame.Version.{Version}
+use Rattle.wire_base.specs.declared.frame.Version.TheVariants as version
+use Rattle.wire_base.specs.declared.refusal.Refusal.{Refusal}
+use Rattle.wire_base.specs.declared.refusal.Refusal.TheVariants as refusal
+use Rattle.wire_base.specs.declared.state.Cause.{Cause}
+use Rattle.wire_base.specs.declared.fault.CallFault.{CallFault}
+use Rattle.wire_base.specs.declared.fault.CallFault.TheVariants as fault
+use Rattle.mux_items.specs.declared.channel.ChannelKey.{ChannelKey}
+use Rattle.mux_items.specs.declared.party.Party.{Party}
+use Rattle.mux_items.specs.declared.party.Party.TheVariants.{Odd, Even, Neither}
+use Rattle.mux_items.specs.Bodies.{frame_texts}
+use Rattle.mux_items.specs.Items.{Item, DidOffer, DidAccept, DidWrite, DidRead, ended, party_of}
+use Rattle.mux_items.specs.Kept.{is_known, is_kept, own_id, own_offers, next_key, most_channels, kept_keys, own_windows}
+use Rattle.mux_items.specs.Lists.{unread, has_completed, termination_emitted, is_accepted, written}
+use Rattle.mux_items.specs.Due.{due, got}
+use Rattle.mux_items.specs.Refusals.{is_ready, unless_ended, is_bad_window, most_windows, most_bytes, or_else, is_unaccepted, open_refusal, writing_refusal, offer_refusal, accept_refusal, write_refusal, read_refusal}
+use Rattle.mux_items.proofs.Permits.{if_none}
+use Rattle.mux_run.specs.declared.steps.Call.{Call}
+use Rattle.mux_run.specs.declared.steps.Call.TheVariants as call
+use Rattle.mux_run.specs.declared.answers.Reply.{Reply}
+use Rattle.mux_run.specs.declared.answers.Reply.TheVariants as reply
+use Rattle.mux_run.specs.Run.{Half, Ways, call_refusal, item_of_call, unless_refused, called}
+use Rattle.mux_run.specs.Answers.{success, refused_or, reply_to}
+use Rattle.mux_end.specs.Stands.{EndValue, MuxStands}
+use Rattle.mux_end.specs.Replies.{Adds, CallAnswers}
+use Rattle.duo_world.specs.Sayable.{IsSayableKey, IsSayable, AreSayable}
+use Rattle.duo_world.specs.Holding.{place_of, rest_of, HalfStands}
+use Rattle.duo_world.specs.Settling.{half}
+use Rattle.duo_world.specs.Stepping.{IsCallable}
+use Rattle.duo_world.proofs.Sayings.{known_sayable}
+use Rattle.duo_world.proofs.Settling.{half_item}
+
+-- what an accepted call shows
+
+not_ended : (o : Option Cause) (r : Option Refusal) → unless_ended o r ≡ None → r ≡ None
+not_ended None r e = e
+not_ended (Some c) r e = cc
+
+both_none : (a b : Option Refusal) → or_else a b ≡ None → (a ≡ None) × (b ≡ None)
+both_none None b e = (refl, e)
+both_none (Some r) b e = cc
+
+pub kept_known : (v : Version) (c : ChannelKey) (items : List Item) → is_kept v c items ≡ true → is_known c items ≡ true
+kept_known v c items e = (and_parts (is_known c items) _ e).0
+
+kept_by : (kept : Bool) (r : Refusal) (otherwise : Option Refusal) → (if not kept then Some r else otherwise) ≡ None → kept ≡ true
+kept_by true r otherwise e = refl
+kept_by false r otherwise e = cc
+
+accept_known : (v : Version) (c : ChannelKey) (size : ℕ) (items : List Item) → accept_refusal v c size items ≡ None → is_known c items ≡ true
+accept_known v c size items e = kept_known v c items (kept_by (is_kept v c items) refusal.NoChannel _ (not_ended (ended items) _ e))
+
+write_known : (v : Version) (c : ChannelKey) (bytes : List ℕ) (items : List Item) → write_refusal v c bytes items ≡ None → is_known c items ≡ true
+write_known v c bytes items e =
+    let writing = (both_none (writing_refusal v c items) _ (not_ended (ended items) _ e)).0 in
+    let opened = (both_none (open_refusal v c items) _ writing).0 in
+    kept_known v c items (kept_by (is_kept v c items) refusal.NoChannel _ opened)
+
+read_known : (v : Version) (c : ChannelKey) (items : List Item) → read_refusal v c items ≡ None → is_known c items ≡ true
+read_known v c items e = kept_known v c items (kept_by (is_kept v c items) refusal.NoChannel _ e)
+
+record Offerable (name : List ℕ) (items : List Item) : Type 0 where
+  short : length name ≤ 1024
+  few : own_offers items < 2147483647
+
+offerable : (v : Version) (name : List ℕ) (size : ℕ) (items : List Item) → offer_refusal v name size items ≡ None → Offerable name items
+offerable v name size items e =
+    let a = if_none (not (is_ready v items)) refusal.NotReady _ (not_ended (ended items) _ e) in
+    let b = if_none (nat_lt 1024 (length name)) refusal.NameTooLong _ a.1 in
+    let c = if_none (is_bad_window size) refusal.BadWindow _ b.1 in
+    let d = if_none (nat_le most_channels (length (kept_keys v items))) refusal.TooManyChannels _ c.1 in
+    let f = if_none (nat_lt most_windows (own_windows v items + size)) refusal.WindowsSpent _ d.1 in
+    let g = if_none (nat_le 2147483647 (own_offers items)) refusal.TooManyOffers _ f.1 in
+    record { short = ltb-false 1024 (length name) b.0; few = leb-false 2147483647 (own_offers items) g.0 }
+
+id_sayable : (party : Party) (k : ℕ) → k < 2147483647 → IsSayableKey (record { id = own_id party (k + 1); own = true })
+id_sayable Odd k h = record { above = omega arith; below = omega arith }
+id_sayable Even k h = record { above = omega arith; below = omega arith }
+id_sayable Neither k h = record { above = omega arith; below = omega arith }
+
+-- the item of an accepted call can be said
+
+pub offer_sayable : (v : Version) (name : List ℕ) (size : ℕ) (items : List Item) → IsUtf8 name → size < 2 ^ 32 → offer_refusal v name size items ≡ None → IsSayable (DidOffer (next_key items) name size)
+offer_sayable v name size items text small e =
+    let o = offerable v name size items e in
+    record {
+      key_is = id_sayable (party_of items) (own_offers items) o.few;
+      name_is = record { utf8 = is_utf8-from_IsUtf8 name text; short = o.short };
+      size_is = omega arith;
+    }
+
+pub accept_sayable : (v : Version) (c : ChannelKey) (size : ℕ) (items : List Item) → AreSayable items → size < 2 ^ 32 → accept_refusal v c size items ≡ None → IsSayable (DidAccept c size)
+accept_sayable v c size items s small e = record { key_is = known_sayable c items s (accept_known v c size items e); count_is = omega arith }
+
+pub write_sayable : (v : Version) (c : ChannelKey) (bytes : List ℕ) (items : List Item) → AreSayable items → write_refusal v c bytes items ≡ None → IsSayable (DidWrite c bytes)
+write_sayable v c bytes items s e = known_sayable c items s (write_known v c bytes items e)
+
+pub read_sayable : (v : Version) (c : ChannelKey) (max : ℕ) (items : List Item) → AreSayable items → max < 2 ^ 32 → read_refusal v c items ≡ None → IsSayable (DidRead c max)
+read_sayable v c max items s small e = record { key_is = known_sayable c items s (read_known v c items e); count_is = omega arith }
+
+-- what a call answered
+
+got_call : (c : Call) (items : List Item) → got (item_of_call c items ∷ items) ≡ got items
+got_call (call.Offer name size) items = refl
+got_call (call.Accept c size) items = refl
+got_call (call.Write c bytes) items = refl
+got_call (call.Read c max) items = refl
+got_call (call.Complete c) items = refl
+got_call (call.Terminate c) items = refl
+
+-- a call is answered as the rules say, and the end then stands for what it leaves
+abbrev pub Calls : Ways → Call → EndValue → Half → Half → Reply → Type 0
+Calls w c new x y r = (r ≡ reply_to w.version c x.items) × IsCallable w new (half (called w.version c x.items) x.delivered) y
+
+accepted : {A : Type 0} (old new : EndValue) (items : List Item) (at : ℕ) (rest : List ℕ) (r : Option Refusal) (item : Item) (IsAnswer : A → Type 0) (z : A)
+    → CallAnswers old new items at rest r item IsAnswer (Ok z) → (r ≡ None) × Adds old new items at rest item × IsAnswer z
+accepted old new items at rest None item IsAnswer z a = (refl, a.0, a.1)
+accepted old new items at rest (Some r) item IsAnswer z a = absurd a
+
+refused : {A : Type 0} (old new : EndValue) (items : List Item) (at : ℕ) (rest : List ℕ) (r : Option Refusal) (item : Item) (IsAnswer : A → Type 0) (r' : Refusal)
+    → CallAnswers old new items at rest r item IsAnswer (Err (fault.Refused r')) → (r ≡ Some r') × (new ≡ old)
+refused old new items at rest None item IsAnswer r' a = absurd a
+refused old new items at rest (Some r) item IsAnswer r' a = (ap (λ r. Some r) (sym a.0), a.1)
+
+pub call_accepted : {A : Type 0} (w : Ways) (c : Call) (old new : EndValue) (x y : Half) (r : Option Refusal) (IsAnswer : A → Type 0) (z : A) → IsCallable w old x y
+    → call_refusal w.version c x.items ≡ r → (r ≡ None → IsSayable (item_of_call c x.items))
+    → CallAnswers old new x.items (place_of w x y) (rest_of w x y) r (item_of_call c x.items) IsAnswer (Ok z)
+    → IsAnswer z × (reply_to w.version c x.items ≡ success w.version c x.items) × IsCallable w new (half (called w.version c x.items) x.delivered) y
+call_accepted w c old new x y r IsAnswer z h is says a =
+    let v = w.version in
+    let item = item_of_call c x.items in
+    let p = accepted old new x.items (place_of w x y) (rest_of w x y) r item IsAnswer z a in
+    let ok : call_refusal v c x.items ≡ None = is ∙ p.0 in
+    let now : called v c x.items ≡ item ∷ x.items = ap (λ r. unless_refused r item x.items) ok in
+    (p.2, ap (λ r. refused_or r (success v c x.items)) ok, subst (λ items. IsCallable w new (half items x.delivered) y) (sym now) (record {
+      three = h.three;
+      stands = half_item w old new item x.items x.delivered y h.three (got_call c x.items) h.stands p.1.stands (p.1.output ∙ ap (λ v. old.output ++ frame_texts v (due v item x.items)) h.stands.version) p.1.version p.1.nonce;
+      sayable = (says p.0, h.sayable);
+    }))
+
+pub call_refused : {A : Type 0} (w : Ways) (c : Call) (old new : EndValue) (x y : Half) (r : Option Refusal) (IsAnswer : A → Type 0) (r' : Refusal) → IsCallable w old x y
+    → call_refusal w.version c x.items ≡ r
+    → CallAnswers old new x.items (place_of w x y) (rest_of w x y) r (item_of_call c x.items) IsAnswer (Err (fault.Refused r'))
+    → Calls w c new x y (reply.Refused r')
+call_refused w c old new x y r IsAnswer r' h is a =
+    let v = w.version in
+    let item = item_of_call c x.items in
+    let p = refused old new x.items (place_of w x y) (rest_of w x y) r item IsAnswer r' a in
+    let no : call_refusal v c x.items ≡ Some r' = is ∙ p.0 in
+    let now : called v c x.items ≡ x.items = ap (λ r. unless_refused r item x.items) no in
+    (sym (ap (λ r. refused_or r (success v c x.items)) no), subst (λ items. IsCallable w new (half items x.delivered) y) (sym now) (subst (λ end. IsCallable w end x y) (sym p.1) h))
