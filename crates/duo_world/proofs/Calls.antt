@@ -1,7 +1,7 @@
 -- A call of an end.
 use Rattle.std.specs.Prelude.{if◌then◌else◌, nat_lt, nat_le, not, ◌&&◌, ◌||◌, min, Bool, true, false, IsUtf8}
 use Rattle.std.specs.Str.{is_utf8}
-use Rattle.std.proofs.Common.{◌≡◌, ℕ, ◌+◌, ◌-◌, ◌*◌, ◌^◌, ◌<◌, ◌≤◌, List, [], ◌∷◌, ◌++◌, length, take, drop, refl, sym, ◌∙◌, ap, subst, inl, inr, arith, Option, Some, None, Result, Ok, Err}
+use Rattle.std.proofs.Common.{◌≡◌, ℕ, ◌+◌, ◌-◌, ◌*◌, ◌^◌, ◌<◌, ◌≤◌, List, [], ◌∷◌, ◌++◌, length, take, drop, refl, sym, ◌∙◌, ap, subst, inl, inr, arith, Option, Some, None, Result, Ok, Err, IfOk}
 use Rattle.std.proofs.lemmas.Bool.{cases_Bool, and_parts, not-false, ltb-false, leb-false}
 use Rattle.std.proofs.lemmas.Str.{is_utf8-from_IsUtf8}
 use Rattle.wire_base.specs.declared.frame.Version.{Version}
@@ -9,6 +9,7 @@ use Rattle.wire_base.specs.declared.frame.Version.TheVariants as version
 use Rattle.wire_base.specs.declared.refusal.Refusal.{Refusal}
 use Rattle.wire_base.specs.declared.refusal.Refusal.TheVariants as refusal
 use Rattle.wire_base.specs.declared.state.Cause.{Cause}
+use Rattle.wire_base.specs.declared.out_of_memory.OutOfMemory.{OutOfMemory}
 use Rattle.wire_base.specs.declared.fault.CallFault.{CallFault}
 use Rattle.wire_base.specs.declared.fault.CallFault.TheVariants as fault
 use Rattle.mux_items.specs.declared.channel.ChannelKey.{ChannelKey}
@@ -32,7 +33,7 @@ use Rattle.mux_end.specs.Replies.{Adds, CallAnswers}
 use Rattle.duo_world.specs.Sayable.{IsSayableKey, IsSayable, AreSayable}
 use Rattle.duo_world.specs.Holding.{place_of, rest_of, HalfStands}
 use Rattle.duo_world.specs.Settling.{half}
-use Rattle.duo_world.specs.Stepping.{IsCallable}
+use Rattle.duo_world.specs.Stepping.{IsCallable, Calls, Answered}
 use Rattle.duo_world.proofs.Sayings.{known_sayable}
 use Rattle.duo_world.proofs.Settling.{half_item}
 
@@ -114,10 +115,6 @@ got_call (call.Read c max) items = refl
 got_call (call.Complete c) items = refl
 got_call (call.Terminate c) items = refl
 
--- a call is answered as the rules say, and the end then stands for what it leaves
-abbrev pub Calls : Ways → Call → EndValue → Half → Half → Reply → Type 0
-Calls w c new x y r = (r ≡ reply_to w.version c x.items) × IsCallable w new (half (called w.version c x.items) x.delivered) y
-
 accepted : {A : Type 0} (old new : EndValue) (items : List Item) (at : ℕ) (rest : List ℕ) (r : Option Refusal) (item : Item) (IsAnswer : A → Type 0) (z : A)
     → CallAnswers old new items at rest r item IsAnswer (Ok z) → (r ≡ None) × Adds old new items at rest item × IsAnswer z
 accepted old new items at rest None item IsAnswer z a = (refl, a.0, a.1)
@@ -155,3 +152,22 @@ call_refused w c old new x y r IsAnswer r' h is a =
     let no : call_refusal v c x.items ≡ Some r' = is ∙ p.0 in
     let now : called v c x.items ≡ x.items = ap (λ r. unless_refused r item x.items) no in
     (sym (ap (λ r. refused_or r (success v c x.items)) no), subst (λ items. IsCallable w new (half items x.delivered) y) (sym now) (subst (λ end. IsCallable w end x y) (sym p.1) h))
+
+-- the same by what an end answers, whose version is that of the ways
+
+pub call_done : {A : Type 0} (w : Ways) (c : Call) (old new : EndValue) (x y : Half) (IsAnswer : A → Type 0) (z : A) → IsCallable w old x y
+    → (call_refusal w.version c x.items ≡ None → IsSayable (item_of_call c x.items))
+    → CallAnswers old new x.items (place_of w x y) (rest_of w x y) (call_refusal old.version c x.items) (item_of_call c x.items) IsAnswer (Ok z)
+    → IsAnswer z × (reply_to w.version c x.items ≡ success w.version c x.items) × IsCallable w new (half (called w.version c x.items) x.delivered) y
+call_done w c old new x y IsAnswer z h says a =
+    let is : call_refusal w.version c x.items ≡ call_refusal old.version c x.items = sym (ap (λ v. call_refusal v c x.items) h.stands.version) in
+    call_accepted w c old new x y (call_refusal old.version c x.items) IsAnswer z h is (λ e. says (is ∙ e)) a
+
+pub call_failed : {A : Type 0} (w : Ways) (c : Call) (old new : EndValue) (x y : Half) (IsAnswer : A → Type 0) (f : CallFault) (result : Result Reply OutOfMemory) → Answered f result → IsCallable w old x y
+    → CallAnswers old new x.items (place_of w x y) (rest_of w x y) (call_refusal old.version c x.items) (item_of_call c x.items) IsAnswer (Err f)
+    → IfOk result (Calls w c new x y)
+call_failed w c old new x y IsAnswer (fault.Refused r) result answered h a =
+    let is : call_refusal w.version c x.items ≡ call_refusal old.version c x.items = sym (ap (λ v. call_refusal v c x.items) h.stands.version) in
+    subst (λ result. IfOk result (Calls w c new x y)) (sym answered) (call_refused w c old new x y (call_refusal old.version c x.items) IsAnswer r h is a)
+call_failed w c old new x y IsAnswer fault.OutOfMemory (Ok r) answered h a = absurd answered
+call_failed w c old new x y IsAnswer fault.OutOfMemory (Err e) answered h a = tt

@@ -3,3 +3,4 @@ pub mod Fronts
 pub mod Settling
 pub mod Going
 pub mod Calls
+pub mod Feeding

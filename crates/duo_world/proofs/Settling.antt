@@ -40,7 +40,7 @@ ready_three v items e = ap (λ v. is_three v || is_greeted (greeting items)) e
 pub packed_three : (v : Version) → v ≡ version.Three → is_packed v ≡ true
 packed_three v e = ap is_packed e
 
-no_greeting : (w : Ways) → w.version ≡ version.Three → greeting_size w ≡ 0
+pub no_greeting : (w : Ways) → w.version ≡ version.Three → greeting_size w ≡ 0
 no_greeting w e = ap (λ v. length (hello v w.peer)) e
 
 pub out_three : (v : Version) (nonce : List ℕ) (items : List Item) → v ≡ version.Three → out v nonce items ≡ frame_texts v (sent v items)

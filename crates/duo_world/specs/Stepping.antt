@@ -1,11 +1,17 @@
 -- What a call, a delivery and a step leave of two ends.
-use Rattle.std.specs.Prelude.{◌≡◌, ℕ, List, Bool, true, length}
+use Rattle.std.specs.Prelude.{◌≡◌, ℕ, List, Bool, true, length, Result, Ok, Err}
 use Rattle.wire_base.specs.declared.frame.Version.TheVariants as version
+use Rattle.wire_base.specs.declared.fault.CallFault.{CallFault}
+use Rattle.wire_base.specs.declared.fault.CallFault.TheVariants as fault
+use Rattle.wire_base.specs.declared.out_of_memory.OutOfMemory.{OutOfMemory}
 use Rattle.mux_items.specs.Items.{Item}
 use Rattle.mux_run.specs.declared.steps.Call.{Call}
 use Rattle.mux_run.specs.declared.steps.Step.{Step}
+use Rattle.mux_run.specs.declared.answers.Reply.{Reply}
+use Rattle.mux_run.specs.declared.answers.Reply.TheVariants as reply
 use Rattle.mux_run.specs.declared.answers.EndEvent.{EndEvent}
-use Rattle.mux_run.specs.Run.{Half, Ways, turned, called, half_after}
+use Rattle.mux_run.specs.Answers.{reply_to, events_since, delivered_count}
+use Rattle.mux_run.specs.Run.{Half, Ways, turned, called, delivered_to, half_after}
 use Rattle.mux_run.specs.Plain.{IsPlainStep}
 use Rattle.mux_run.specs.Linked.{Joined}
 use Rattle.mux_run.specs.Fed.{IsFed}
@@ -32,3 +38,18 @@ pub record IsReadyFor (w : Ways) (s : Step) (own peer : EndValue) (x y : Half) :
 pub record AreStanding (w : Ways) (own peer : EndValue) (x y : Half) : Type 0 where
   pub own_stands : IsCallable w own x y
   pub peer_stands : IsCallable (turned w) peer y x
+
+-- a call is answered as the rules say, and the end then stands for what it leaves
+abbrev pub Calls : Ways → Call → EndValue → Half → Half → Reply → Type 0
+Calls w c new x y r = (r ≡ reply_to w.version c x.items) × IsCallable w new (half (called w.version c x.items) x.delivered) y
+
+-- a refused call answers so
+abbrev pub Answered : CallFault → Result Reply OutOfMemory → Type 0
+Answered (fault.Refused r) result = result ≡ Ok (reply.Refused r)
+Answered fault.OutOfMemory (Ok r) = ⊥
+Answered fault.OutOfMemory (Err e) = Unit {0}
+
+-- a delivery of at most n bytes answers the number of those that were given, has these events, and leaves the ends so
+abbrev pub Delivers : Ways → ℕ → EndValue → EndValue → List EndEvent → Half → Half → ℕ → Type 0
+Delivers w n own peer events x y count =
+    (count ≡ delivered_count w n x y) × (events ≡ events_since w.version (length x.items) (delivered_to w n x y).items) × AreStanding w own peer (delivered_to w n x y) y

@@ -1,13 +1,29 @@
 //! What a step does to the two ends.
 
-ghost use Rattle.duo_world.specs.Settling.{IsOnWay, IsSettled};
-ghost use Rattle.mux_items.specs.Items.{Item};
-ghost use Rattle.mux_run.specs.Run.{Half, Ways, settled};
-ghost use Rattle.std.specs.Prelude.{◌≡◌, ℕ, List, OnOk};
+ghost use Rattle.duo_world.specs.Settling.{IsOnWay, IsSettled, half};
+ghost use Rattle.duo_world.specs.Stepping.{Answered, AreStanding, Calls, Delivers, IsCallable, IsReadyFor};
+ghost use Rattle.mux_end.specs.Tests.{is_running_state};
+ghost use Rattle.mux_items.specs.Items.{Item, is_running};
+ghost use Rattle.mux_run.specs.Answers.{answer_at};
+ghost use Rattle.mux_run.specs.Built.{is_built_call, is_built_step, is_offer_call, is_offer_step};
+ghost use Rattle.mux_run.specs.Run.{Half, Ways, half_after, settled};
+ghost use Rattle.mux_run.specs.declared.steps.Side.{Side};
+ghost use Rattle.mux_run.specs.declared.steps.Side.TheVariants.{A};
+ghost use Rattle.std.specs.Prelude.{◌≡◌, ℕ, List, [], OnOk, IfOk, None, true};
 
 use mux_end::{MuxEnd, MuxStep};
-use mux_run::{EndEvent, EventList};
-use wire_base::OutOfMemory;
+use mux_run::{Call, EndEvent, EventList, Reply, Step};
+use std::alloc::Global;
+use wire_base::{Blob, CallFault, EndState, OutOfMemory};
+
+fn is_running(end: &MuxEnd) -> bool
+    ensures { result ≡ is_running_state end.now.state }
+{
+    match end.state() {
+        EndState::Running => true,
+        EndState::Ended(_) | EndState::Stopped => false,
+    }
+}
 
 /// Applies at an end that runs what is whole of the bytes that it was given.
 fn settle(own: &mut MuxEnd, events: &mut EventList) -> Result<(), OutOfMemory>
@@ -24,6 +40,75 @@ fn settle(own: &mut MuxEnd, events: &mut EventList) -> Result<(), OutOfMemory>
             }
             MuxStep::Stopped | MuxStep::OutOfMemory => return Err(OutOfMemory),
         }
+    }
+}
+
+/// What a fault answers.
+fn refused(fault: CallFault) -> Result<Reply, OutOfMemory>
+    ensures { Answered fault result }
+{
+    match fault {
+        CallFault::Refused(refusal) => Ok(Reply::Refused(refusal)),
+        CallFault::OutOfMemory => Err(OutOfMemory),
+    }
+}
+
+/// Makes a call at an end.
+fn call(alloc: Global, own: &mut MuxEnd, call: &Call) -> Result<Reply, OutOfMemory>
+    requires built { is_built_call A call.now ≡ true }
+    requires free { is_offer_call call.now ≡ true → own.old.channel ≡ None }
+    ensures { (w : Ways) (x y : Half) → IsCallable w own.old x y → IfOk result (Calls w call.now own.new x y) }
+{
+    match call {
+        Call::Offer(name, window) => {
+            // a text is UTF-8, which the frame of the offer asks
+            let _text = name.as_str();
+            match own.offer(name, *window) {
+                Ok(key) => Ok(Reply::Made(key)),
+                Err(fault) => refused(fault),
+            }
+        }
+        Call::Accept(key, window) => match own.accept(*key, *window) {
+            Ok(()) => Ok(Reply::Done),
+            Err(fault) => refused(fault),
+        },
+        Call::Write(key, bytes) => match own.write(*key, bytes.as_bytes()) {
+            Ok(()) => Ok(Reply::Done),
+            Err(fault) => refused(fault),
+        },
+        Call::Read(key, max) => {
+            let mut bytes = Vec::new(alloc);
+            match own.read(*key, *max as usize, &mut bytes) {
+                Ok(_) => Ok(Reply::Bytes(Blob::from_bytes(alloc, bytes.as_slice())?)),
+                Err(fault) => refused(fault),
+            }
+        }
+        Call::Complete(_) | Call::Terminate(_) => unreachable!(),
+    }
+}
+
+/// Gives an end the next bytes of the other's output, at most so many, lets it apply what is whole, and answers how
+/// many were given.
+fn deliver(own: &mut MuxEnd, peer: &mut MuxEnd, n: u64, events: &mut EventList) -> Result<u64, OutOfMemory>
+    ensures { (w : Ways) (side : Side) (x y : Half) → IsReadyFor w (Step.Deliver side n) own.old peer.old x y → events.old ≡ [] →
+        IfOk result (Delivers w n own.new peer.new events.new x y) }
+{
+    if !is_running(own) {
+        return Ok(0);
+    }
+    let pending = peer.pending_output();
+    let count = n.min(pending.len() as u64) as usize;
+    match own.feed(&pending[..count])? {
+        EndState::Running => {
+            peer.took(count);
+            settle(own, events)?;
+            Ok(count as u64)
+        }
+        EndState::Ended(cause) => {
+            events.push(EndEvent::Ended(cause))?;
+            Ok(0)
+        }
+        EndState::Stopped => Err(OutOfMemory),
     }
 }
 
