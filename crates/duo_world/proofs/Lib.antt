@@ -4,3 +4,4 @@ pub mod Settling
 pub mod Going
 pub mod Calls
 pub mod Feeding
+pub mod Answering

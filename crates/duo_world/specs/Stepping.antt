@@ -6,11 +6,14 @@ use Rattle.wire_base.specs.declared.fault.CallFault.TheVariants as fault
 use Rattle.wire_base.specs.declared.out_of_memory.OutOfMemory.{OutOfMemory}
 use Rattle.mux_items.specs.Items.{Item}
 use Rattle.mux_run.specs.declared.steps.Call.{Call}
+use Rattle.mux_run.specs.declared.steps.Side.{Side}
 use Rattle.mux_run.specs.declared.steps.Step.{Step}
+use Rattle.mux_run.specs.declared.steps.Step.TheVariants as step
+use Rattle.mux_run.specs.declared.answers.DuoAnswer.{DuoAnswer}
 use Rattle.mux_run.specs.declared.answers.Reply.{Reply}
 use Rattle.mux_run.specs.declared.answers.Reply.TheVariants as reply
 use Rattle.mux_run.specs.declared.answers.EndEvent.{EndEvent}
-use Rattle.mux_run.specs.Answers.{reply_to, events_since, delivered_count}
+use Rattle.mux_run.specs.Answers.{reply_to, events_since, delivered_count, answer_at}
 use Rattle.mux_run.specs.Run.{Half, Ways, turned, called, delivered_to, half_after}
 use Rattle.mux_run.specs.Plain.{IsPlainStep}
 use Rattle.mux_run.specs.Linked.{Joined}
@@ -53,3 +56,11 @@ Answered fault.OutOfMemory (Err e) = Unit {0}
 abbrev pub Delivers : Ways → ℕ → EndValue → EndValue → List EndEvent → Half → Half → ℕ → Type 0
 Delivers w n own peer events x y count =
     (count ≡ delivered_count w n x y) × (events ≡ events_since w.version (length x.items) (delivered_to w n x y).items) × AreStanding w own peer (delivered_to w n x y) y
+
+-- a call at x answers as the run says, and leaves its end so
+abbrev pub CallAnswersAt : Ways → Side → Call → EndValue → Half → Half → DuoAnswer → Type 0
+CallAnswersAt w side c own x y a = (a ≡ answer_at w (step.Call side c) x y) × IsCallable w own (half_after w (step.Call side c) x y) y
+
+-- a step at x answers as the run says, and leaves the two ends so
+abbrev pub StepAnswersAt : Ways → Step → EndValue → EndValue → Half → Half → DuoAnswer → Type 0
+StepAnswersAt w s own peer x y a = (a ≡ answer_at w s x y) × AreStanding w own peer (half_after w s x y) y

@@ -1,7 +1,8 @@
 //! What a step does to the two ends.
 
 ghost use Rattle.duo_world.specs.Settling.{IsOnWay, IsSettled, half};
-ghost use Rattle.duo_world.specs.Stepping.{Answered, AreStanding, Calls, Delivers, IsCallable, IsReadyFor};
+ghost use Rattle.duo_world.specs.Stepping.{Answered, CallAnswersAt, Calls, Delivers, IsCallable, IsReadyFor, StepAnswersAt};
+ghost use Rattle.mux_end.specs.Stands.{EndValue};
 ghost use Rattle.mux_end.specs.Tests.{is_running_state};
 ghost use Rattle.mux_items.specs.Items.{Item, is_running};
 ghost use Rattle.mux_run.specs.Answers.{answer_at};
@@ -12,7 +13,7 @@ ghost use Rattle.mux_run.specs.declared.steps.Side.TheVariants.{A};
 ghost use Rattle.std.specs.Prelude.{◌≡◌, ℕ, List, [], OnOk, IfOk, None, true};
 
 use mux_end::{MuxEnd, MuxStep};
-use mux_run::{Call, EndEvent, EventList, Reply, Step};
+use mux_run::{Call, DuoAnswer, EndEvent, EventList, Reply, Step};
 use std::alloc::Global;
 use wire_base::{Blob, CallFault, EndState, OutOfMemory};
 
@@ -54,7 +55,7 @@ fn refused(fault: CallFault) -> Result<Reply, OutOfMemory>
 }
 
 /// Makes a call at an end.
-fn call(alloc: Global, own: &mut MuxEnd, call: &Call) -> Result<Reply, OutOfMemory>
+fn make_call(alloc: Global, own: &mut MuxEnd, call: &Call) -> Result<Reply, OutOfMemory>
     requires built { is_built_call A call.now ≡ true }
     requires free { is_offer_call call.now ≡ true → own.old.channel ≡ None }
     ensures { (w : Ways) (x y : Half) → IsCallable w own.old x y → IfOk result (Calls w call.now own.new x y) }
@@ -112,4 +113,35 @@ fn deliver(own: &mut MuxEnd, peer: &mut MuxEnd, n: u64, events: &mut EventList) 
     }
 }
 
-pub fn placeholder() {}
+/// Makes a call at an end, and lets it apply what is whole.
+fn answer_call(alloc: Global, own: &mut MuxEnd, call: &Call) -> Result<DuoAnswer, OutOfMemory>
+    requires built { is_built_call A call.now ≡ true }
+    requires free { is_offer_call call.now ≡ true → own.old.channel ≡ None }
+    ensures { (w : Ways) (side : Side) (peer : EndValue) (x y : Half) → IsReadyFor w (Step.Call side call.now) own.old peer x y →
+        IfOk result (CallAnswersAt w side call.now own.new x y) }
+{
+    let mut events = EventList::new(alloc);
+    let running = is_running(own);
+    let reply = make_call(alloc, own, call)?;
+    if running {
+        settle(own, &mut events)?;
+    }
+    Ok(DuoAnswer::Replied(reply, events))
+}
+
+/// Makes a step at one side, whose end comes first.
+pub fn answer_step(alloc: Global, own: &mut MuxEnd, peer: &mut MuxEnd, step: &Step) -> Result<DuoAnswer, OutOfMemory>
+    requires built { is_built_step step.now ≡ true }
+    requires free { is_offer_step step.now ≡ true → own.old.channel ≡ None }
+    ensures { (w : Ways) (x y : Half) → IsReadyFor w step.now own.old peer.old x y → IfOk result (StepAnswersAt w step.now own.new peer.new x y) }
+{
+    match step {
+        Step::Call(_, call) => answer_call(alloc, own, call),
+        Step::Deliver(_, n) => {
+            let mut events = EventList::new(alloc);
+            let count = deliver(own, peer, *n, &mut events)?;
+            Ok(DuoAnswer::Delivered(count, events))
+        }
+        Step::End(_) => unreachable!(),
+    }
+}

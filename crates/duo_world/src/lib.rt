@@ -3,4 +3,4 @@
 
 mod ends;
 
-pub use ends::placeholder;
+pub use ends::answer_step;

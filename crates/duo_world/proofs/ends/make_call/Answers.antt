@@ -10,7 +10,7 @@ use Rattle.duo_world.specs.Holding.{place_of, rest_of}
 use Rattle.duo_world.specs.Settling.{half}
 use Rattle.duo_world.specs.Stepping.{IsCallable, Calls}
 use Rattle.duo_world.proofs.Calls.{call_done, call_failed, offer_sayable, accept_sayable, write_sayable, read_sayable}
-use Rattle.duo_world.proofs.ends.call.Goals as goal
+use Rattle.duo_world.proofs.ends.make_call.Goals as goal
 
 pub returns-in-Ok : goal.returns-in-Ok
 returns-in-Ok c = λ w x y h.
