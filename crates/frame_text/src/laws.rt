@@ -1,9 +1,9 @@
 //! Laws of the reading and of the spellings of frames.
 
 ghost use Rattle.frame_text.specs.Codec.{is_packed};
-ghost use Rattle.frame_text.specs.Front.{Broken, Whole};
+ghost use Rattle.frame_text.specs.Front.{Broken, Short, Whole};
 ghost use Rattle.frame_text.specs.Reading.{front};
-ghost use Rattle.std.specs.Prelude.{◌≡◌, ◌<◌, ◌≤◌, ℕ, List, length, true};
+ghost use Rattle.std.specs.Prelude.{◌≡◌, ◌<◌, ◌≤◌, ◌++◌, ℕ, List, length, true};
 ghost use Rattle.wire_base.specs.declared.frame.Frame.{Frame};
 ghost use Rattle.wire_base.specs.declared.frame.Version.{Version};
 ghost use Rattle.wire_base.specs.declared.reason.Reason.{Reason};
@@ -19,4 +19,15 @@ pub fn front_stands_within()
         front v bytes ≡ Whole f size → size ≤ 0x100055 }
     ensures broken_near { (v : Version) (bytes : List ℕ) (offset : ℕ) (reason : Reason) → is_packed v ≡ true →
         front v bytes ≡ Broken offset reason → offset ≤ 0x100055 }
+{}
+
+/// What stands at the front stays so, whatever follows. Less than a whole frame is the beginning of one.
+#[tactic(auto, using(crate::proofs::Steady::stays))]
+pub fn front_is_steady()
+    ensures front_stays { (v : Version) (bytes more : List ℕ) (f : Frame) (size : ℕ) →
+        front v bytes ≡ Whole f size → front v (bytes ++ more) ≡ Whole f size }
+    ensures broken_stays { (v : Version) (bytes more : List ℕ) (offset : ℕ) (reason : Reason) →
+        front v bytes ≡ Broken offset reason → front v (bytes ++ more) ≡ Broken offset reason }
+    ensures front_cut { (v : Version) (a b : List ℕ) (f : Frame) (size : ℕ) →
+        front v (a ++ b) ≡ Whole f size → length a < size → front v a ≡ Short }
 {}

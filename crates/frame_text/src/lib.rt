@@ -7,4 +7,4 @@ mod laws;
 
 pub use codec::FrameCodec;
 pub use fault::{DecodeError, Fault};
-pub use laws::front_stands_within;
+pub use laws::{front_is_steady, front_stands_within};
