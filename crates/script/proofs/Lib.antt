@@ -9,3 +9,6 @@ mod LineTexts
 mod StepWords
 mod PlainWords
 mod StepLines
+mod Counts
+mod Scripts
+mod Laws

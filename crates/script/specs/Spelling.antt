@@ -77,9 +77,13 @@ ended text = text ++ 10 ∷ []
 abbrev pub head_text : List ℕ
 head_text = ended (codes "script 1") ++ ended (codes "version 3")
 
--- the text of a script: its head, and a line for each step
+-- a line for each step
+abbrev pub step_lines : List Step → List ℕ
+step_lines steps = flat_map (λ s. ended (step_text s)) steps
+
+-- the text of a script: its head and the lines of its steps
 abbrev pub script_text : List Step → List ℕ
-script_text steps = head_text ++ flat_map (λ s. ended (step_text s)) steps
+script_text steps = head_text ++ step_lines steps
 
 -- a number that a script can name
 abbrev pub is_number : ℕ → Bool
