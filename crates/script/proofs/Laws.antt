@@ -1,5 +1,6 @@
 -- Scripts and their texts.
 use Rattle.std.proofs.Common.{◌≡◌, ◌≢◌, ℕ, ◌<◌, ◌≤◌, ◌+◌, ◌⊎◌, inl, inr, Bool, true, false, cond, eqb, ◌&&◌, List, [], ◌∷◌, ◌++◌, length, refl, Result, Ok, Err, sym, ap, subst, ◌∙◌, arith, append_assoc, codes}
+use Rattle.std.specs.Prelude.{◌↔◌}
 use Rattle.std.specs.List.{list_all, list_any, flat_map, join_with_byte}
 use Rattle.std.specs.Str.{is_utf8, bytes_eq, chars}
 use Rattle.std.proofs.lemmas.Bool.{and_parts}
@@ -12,16 +13,16 @@ use Rattle.wire_base.specs.declared.frame.Version.{Version}
 use Rattle.wire_base.specs.declared.frame.Version.TheVariants as version
 use Rattle.script.specs.declared.reason.ScriptReason.{ScriptReason}
 use Rattle.script.specs.declared.reason.ScriptReason.TheVariants as reason
-use Rattle.script.specs.Spelling.{AreScripted, is_spellable, step_text, step_words, step_lines, script_text, head_text, ended}
+use Rattle.script.specs.Spelling.{AreScripted, is_spellable, step_text, step_words, step_lines, script_text, head_text, ended, stands_in_line, is_line_text}
 use Rattle.script.specs.Lines.{TextLine, lines_of, line_bytes}
 use Rattle.script.specs.Words.{words_of}
 use Rattle.script.specs.Steps.{on_ok, text_in, step_in, step_by, format_in, version_in, begins_built}
-use Rattle.script.specs.Found.{Found, reads, breaks, behind, steps_from, version_from, script_from, script_in, BreaksBehind}
+use Rattle.script.specs.Found.{Found, reads, breaks, behind, steps_from, version_from, script_from, script_in, BreaksBehind, IsScript}
 use Rattle.script.proofs.Tests.{same_from_bytes_eq, tested}
 use Rattle.script.proofs.TextLemmas.{text_in-ended}
-use Rattle.script.proofs.Splits.{stands_in_line}
 use Rattle.script.proofs.LineTexts.{lacks_feed, lines_of-lack, flat_map-lines_of}
-use Rattle.script.proofs.StepLines.{text_in-ok, IsWhole, on_ok-ok}
+use Rattle.script.proofs.StepLines.{text_in-ok, IsWhole, on_ok-ok, step_text-words, text_words}
+use Rattle.script.proofs.StepWords.{has_word, step_in-words, step_in-other, step_in-ok, bad_word-begins, bad_or_step}
 use Rattle.script.proofs.Scripts.{steps_from-lines, steps_from-reads, steps_from-breaks, behind_reads, behind_breaks}
 
 head_utf8 : (is_utf8 (codes "script 1") ≡ true) × (is_utf8 (codes "version 3") ≡ true)
@@ -45,9 +46,6 @@ goes_on steps rest h =
     let all = steps_from-lines version.Three [] steps 3 rest h in
     let place : length steps + 3 ≡ 3 + length steps = omega arith in
     rw (format_text, version_text, place) all
-
-written_nil : (steps : List Step) (rest : List ℕ) → script_text steps ++ rest ≡ head_text ++ (step_lines steps ++ rest)
-written_nil steps rest = append_assoc head_text (step_lines steps) rest
 
 -- what is written is read
 pub written : (steps : List Step) → AreScripted steps → script_in (script_text steps) ≡ reads version.Three steps
@@ -89,12 +87,6 @@ head_read first second u v h g =
     let one = whole_bytes first a.0 (text_in-ok first a.0 a.1) in
     let two = whole_bytes second b.0 (text_in-ok second b.0 b.1) in
     record { version = w.1; text = rw (one, two, f, w.0) refl }
-
--- a script that was read
-pub record IsScript (bytes : List ℕ) (v : Version) (steps : List Step) : Type 0 where
-  pub version : v ≡ version.Three
-  pub scripted : AreScripted steps
-  pub text : bytes ≡ script_text steps
 
 head_moved : (first second : TextLine) (rest steps : List ℕ) → line_bytes first ++ line_bytes second ≡ head_text → rest ≡ steps → line_bytes first ++ (line_bytes second ++ rest) ≡ head_text ++ steps
 head_moved first second rest steps e s = sym (append_assoc (line_bytes first) (line_bytes second) rest) ∙ rw (e, s) refl
@@ -157,3 +149,27 @@ pub is_broken : (bytes : List ℕ) (number : ℕ) (fault : ScriptReason) → scr
 is_broken bytes number fault h low =
     let P : List ℕ → Type 0 = λ x. SomeBehind x number fault in
     subst P (flat_map-lines_of bytes) (script_from-breaks (lines_of bytes) number fault (lines_of-lack bytes) h low)
+
+step_in-spelled : (s : Step) → is_spellable s ≡ true → step_in (step_words s) ≢ Err reason.BadWord
+step_in-spelled s spelled h = elim (tested (has_word s)) [
+    | inl word ↦ let e = step_in-words s spelled word in cc
+    | inr other ↦ let e = step_in-other s other in cc
+  ]
+
+joined : (text : List ℕ) (s : Step) → words_of text ≡ step_words s → step_text s ≡ text
+joined text s e = sym (sym (join_with_byte-slice_split 32 text) ∙ ap (join_with_byte 32) e)
+
+-- a line has a bad word exactly if it begins as a step that is built and is the text of none
+pub bad_word : (text : List ℕ) → is_line_text text ≡ true → (step_in (words_of text) ≡ Err reason.BadWord)
+    ↔ ((begins_built (words_of text) ≡ true) × ((s : Step) → is_spellable s ≡ true → step_text s ≢ text))
+bad_word text line =
+    let l = and_parts (is_utf8 text) (list_all stands_in_line text) line in (
+      λ h. (bad_word-begins (words_of text) h, λ s spelled same.
+        step_in-spelled s spelled (sym (ap step_in (step_text-words s spelled)) ∙ ap (λ t. step_in (words_of t)) same ∙ h)),
+      λ p. elim (bad_or_step (words_of text) p.0) [
+        | inl h ↦ h
+        | inr q ↦
+            let read = step_in-ok (words_of text) q.0 (text_words text l.0 l.1) q.1 in
+            absurd (p.1 q.0 read.1 (joined text q.0 read.0))
+      ],
+    )

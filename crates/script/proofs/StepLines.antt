@@ -9,13 +9,13 @@ use Rattle.mux_run.specs.Built.{is_built_step, is_offer_step}
 use Rattle.mux_run.specs.declared.steps.Step.{Step}
 use Rattle.script.specs.declared.reason.ScriptReason.{ScriptReason}
 use Rattle.script.specs.declared.reason.ScriptReason.TheVariants as reason
-use Rattle.script.specs.Spelling.{step_words, step_text, is_spellable, most_steps}
+use Rattle.script.specs.Spelling.{step_words, step_text, is_spellable, most_steps, stands_in_line}
 use Rattle.script.specs.Lines.{TextLine}
 use Rattle.script.specs.Words.{words_of}
 use Rattle.script.specs.Steps.{on_ok, text_in, admitted, step_in, step_after}
 use Rattle.script.proofs.Tests.{not_parts}
 use Rattle.script.proofs.TextLemmas.{text_in-ended}
-use Rattle.script.proofs.Splits.{is_word, stands_in_line, words_of-words, utf8_words}
+use Rattle.script.proofs.Splits.{is_word, words_of-words, utf8_words}
 use Rattle.script.proofs.LineTexts.{lacks_feed}
 use Rattle.script.proofs.StepWords.{is_text_word, step_in-words, step_in-ok, built_has_word}
 use Rattle.script.proofs.PlainWords.{step_words-texts, texts_are_utf8, texts_are_words, words_are_texts, utf8_joined, feed_joined, words_of-step_text}
@@ -30,8 +30,11 @@ step_text-in_line s h = feed_joined (step_words s) (texts_are_words (step_words 
 text_in-step_line : (s : Step) → is_spellable s ≡ true → text_in (step_line s) ≡ Ok (step_text s)
 text_in-step_line s h = text_in-ended (step_line s) (utf8_joined (step_words s) (texts_are_utf8 (step_words s) (step_words-texts s h))) refl
 
+pub step_text-words : (s : Step) → is_spellable s ≡ true → words_of (step_text s) ≡ step_words s
+step_text-words s h = words_of-step_text s (texts_are_words (step_words s) (step_words-texts s h))
+
 step_in-step_text : (s : Step) → is_spellable s ≡ true → is_built_step s ≡ true → step_in (words_of (step_text s)) ≡ Ok s
-step_in-step_text s h b = ap step_in (words_of-step_text s (texts_are_words (step_words s) (step_words-texts s h))) ∙ step_in-words s h (built_has_word s b)
+step_in-step_text s h b = ap step_in (step_text-words s h) ∙ step_in-words s h (built_has_word s b)
 
 admitted-ok : (offered : Bool) (s : Step) → is_built_step s ≡ true → (offered && is_offer_step s) ≡ false → admitted offered s ≡ Ok s
 unfolding admitted
@@ -88,7 +91,7 @@ pub record IsStepLine (count : ℕ) (offered : Bool) (line : TextLine) (s : Step
 below : (count : ℕ) → ltb count most_steps ≡ true → count < most_steps
 below count h = grind (arith, nat_tests)
 
-text_words : (text : List ℕ) → is_utf8 text ≡ true → list_all stands_in_line text ≡ true → list_all is_text_word (words_of text) ≡ true
+pub text_words : (text : List ℕ) → is_utf8 text ≡ true → list_all stands_in_line text ≡ true → list_all is_text_word (words_of text) ≡ true
 text_words text h g =
     let P : List ℕ → Type 0 = λ x. is_utf8 x ≡ true in
     words_are_texts (words_of text) (utf8_words (words_of text) (subst P (sym (join_with_byte-slice_split 32 text)) h)) (words_of-words text g)

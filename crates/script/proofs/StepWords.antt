@@ -376,7 +376,7 @@ step_in-ok (first ∷ words) s t h =
 
 -- ---- bad words
 
-bad_or_ok : (o : Option Step) → ok_or o reason.BadWord ≡ Err reason.BadWord ⊎ ((s : Step) × (ok_or o reason.BadWord ≡ Ok s))
+bad_or_ok : (o : Option Step) → (ok_or o reason.BadWord ≡ Err reason.BadWord) ⊎ ((s : Step) × (ok_or o reason.BadWord ≡ Ok s))
 bad_or_ok (Some s) = inr (s, refl)
 bad_or_ok None = inl refl
 
@@ -397,3 +397,35 @@ pub bad_word-begins : (words : List (List ℕ)) → step_in words ≡ Err reason
 unfolding step_in
 bad_word-begins [] h = cc h
 bad_word-begins (first ∷ words) h = bad_begins (step_word_in first) first words (λ x e. step_word_in-some first x e) h
+
+or_true : (a b : Bool) → (a || b) ≡ true → (a ≡ true) ⊎ (b ≡ true)
+or_true true b h = inl refl
+or_true false b h = inr h
+
+abbrev BadOrStep : List (List ℕ) → Type 0
+BadOrStep words = (step_in words ≡ Err reason.BadWord) ⊎ ((s : Step) × (step_in words ≡ Ok s))
+
+by_word : (first text : List ℕ) (words : List (List ℕ)) → bytes_eq first text ≡ true → BadOrStep (text ∷ words) → BadOrStep (first ∷ words)
+by_word first text words e h = rw (same_from_bytes_eq first text e) h
+
+-- behind a step word that is built comes a step or a bad word
+pub bad_or_step : (words : List (List ℕ)) → begins_built words ≡ true → BadOrStep words
+unfolding step_in step_word_in
+bad_or_step [] h = cc h
+bad_or_step (first ∷ words) h =
+    elim (or_true (bytes_eq first (codes "offer")) _ h) [
+      | inl e ↦ by_word first (codes "offer") words e (bad_or_ok (offer_in words))
+      | inr h1 ↦ elim (or_true (bytes_eq first (codes "accept")) _ h1) [
+        | inl e ↦ by_word first (codes "accept") words e (bad_or_ok (accept_in words))
+        | inr h2 ↦ elim (or_true (bytes_eq first (codes "write")) _ h2) [
+          | inl e ↦ by_word first (codes "write") words e (bad_or_ok (write_in words))
+          | inr h3 ↦ elim (or_true (bytes_eq first (codes "read")) _ h3) [
+            | inl e ↦ by_word first (codes "read") words e (bad_or_ok (read_in words))
+            | inr h4 ↦ elim (or_true (bytes_eq first (codes "deliver")) _ h4) [
+              | inl e ↦ by_word first (codes "deliver") words e (bad_or_ok (deliver_in words))
+              | inr h5 ↦ cc h5
+            ]
+          ]
+        ]
+      ]
+    ]

@@ -4,6 +4,7 @@ use Rattle.std.specs.List.{list_any, flat_map}
 use Rattle.mux_run.specs.Built.{is_offer_step}
 use Rattle.mux_run.specs.declared.steps.Step.{Step}
 use Rattle.wire_base.specs.declared.frame.Version.{Version}
+use Rattle.wire_base.specs.declared.frame.Version.TheVariants as version
 use Rattle.script.specs.declared.reason.ScriptReason.{ScriptReason}
 use Rattle.script.specs.declared.reason.ScriptReason.TheVariants as reason
 use Rattle.script.specs.Lines.{TextLine, lines_of, line_bytes}
@@ -39,6 +40,12 @@ script_from (line ∷ lines) = behind 1 (on_ok (text_in line) format_in) (λ _. 
 -- the script that the bytes are, or the first line that breaks it and why
 abbrev pub script_in : List ℕ → Found
 script_in bytes = script_from (lines_of bytes)
+
+-- the bytes are the text of these steps, which a script may have
+pub record IsScript (bytes : List ℕ) (v : Version) (steps : List Step) : Type 0 where
+  pub version : v ≡ version.Three
+  pub scripted : AreScripted steps
+  pub text : bytes ≡ script_text steps
 
 -- what stands before this line is the script of these steps, and the line is the first that breaks it
 pub record BreaksBehind (bytes : List ℕ) (number : ℕ) (fault : ScriptReason) (steps : List Step) (line : TextLine) (later : List TextLine) : Type 0 where

@@ -93,6 +93,13 @@ is_number n = nat_lt n (2 ^ 32)
 abbrev pub stands_in_word : ℕ → Bool
 stands_in_word b = not (b == 32 || b == 10)
 
+abbrev pub stands_in_line : ℕ → Bool
+stands_in_line b = not (b == 10)
+
+-- a text without a line feed
+abbrev pub is_line_text : List ℕ → Bool
+is_line_text text = is_utf8 text && list_all stands_in_line text
+
 -- a name that a script can name: a text that is one word or empty, and not the hyphen
 abbrev pub is_name : List ℕ → Bool
 is_name name = is_utf8 name && list_all stands_in_word name && not (bytes_eq name hyphen)
