@@ -11,4 +11,5 @@ mod PlainWords
 mod StepLines
 mod Counts
 mod Scripts
-mod Laws
+mod ScriptLaws
+mod AnswersOfRead
