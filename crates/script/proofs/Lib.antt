@@ -9,3 +9,7 @@ mod LineTexts
 mod StepWords
 mod PlainWords
 mod StepLines
+mod Counts
+mod Scripts
+mod ScriptLaws
+mod AnswersOfRead
