@@ -3,3 +3,4 @@ pub mod Growing
 pub mod Links
 pub mod PlainFrames
 pub mod Plain
+pub mod Safety
