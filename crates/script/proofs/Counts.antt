@@ -7,7 +7,7 @@ use Rattle.std.proofs.lemmas.List.Sums.{sum_by-append, sum_by-cons, sum_by_push}
 use Rattle.mux_run.specs.Built.{AreBuilt, is_built_step, is_offer_step}
 use Rattle.mux_run.specs.declared.steps.Step.{Step}
 use Rattle.script.specs.Spelling.{AreScripted, is_spellable, most_steps}
-use Rattle.script.proofs.Tests.{and_true}
+use Rattle.script.proofs.ByteTests.{and_true}
 
 -- one for an offer
 abbrev offers : Step → ℕ

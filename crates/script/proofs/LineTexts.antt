@@ -4,7 +4,7 @@ use Rattle.std.specs.List.{list_all, flat_map}
 use Rattle.std.proofs.lemmas.Bool.{and_parts}
 use Rattle.script.specs.Spelling.{ended, stands_in_line}
 use Rattle.script.specs.Lines.{TextLine, lines_of, onto_line, line_bytes}
-use Rattle.script.proofs.Tests.{tested}
+use Rattle.script.proofs.ByteTests.{tested}
 
 not_false : (b : Bool) → not b ≡ true → b ≡ false
 not_false true h = cc

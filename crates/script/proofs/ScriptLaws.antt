@@ -18,7 +18,7 @@ use Rattle.script.specs.Lines.{TextLine, lines_of, line_bytes}
 use Rattle.script.specs.Words.{words_of}
 use Rattle.script.specs.Steps.{on_ok, text_in, step_in, step_by, format_in, version_in, begins_built}
 use Rattle.script.specs.Found.{Found, reads, breaks, behind, steps_from, version_from, script_from, script_in, BreaksBehind, IsScript}
-use Rattle.script.proofs.Tests.{same_from_bytes_eq, tested}
+use Rattle.script.proofs.ByteTests.{same_from_bytes_eq, tested}
 use Rattle.script.proofs.TextLemmas.{text_in-ended}
 use Rattle.script.proofs.LineTexts.{lacks_feed, lines_of-lack, flat_map-lines_of}
 use Rattle.script.proofs.StepLines.{text_in-ok, IsWhole, on_ok-ok, step_text-words, text_words}

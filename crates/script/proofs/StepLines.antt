@@ -13,7 +13,7 @@ use Rattle.script.specs.Spelling.{step_words, step_text, is_spellable, most_step
 use Rattle.script.specs.Lines.{TextLine}
 use Rattle.script.specs.Words.{words_of}
 use Rattle.script.specs.Steps.{on_ok, text_in, admitted, step_in, step_after}
-use Rattle.script.proofs.Tests.{not_parts}
+use Rattle.script.proofs.ByteTests.{not_parts}
 use Rattle.script.proofs.TextLemmas.{text_in-ended}
 use Rattle.script.proofs.Splits.{is_word, words_of-words, utf8_words}
 use Rattle.script.proofs.LineTexts.{lacks_feed}

@@ -24,7 +24,7 @@ use Rattle.script.specs.declared.step_word.StepWord.TheVariants as word
 use Rattle.script.specs.Spelling.{side_word, channel_word, offering_side, peer_of, name_word, bytes_word, count_word, step_words, call_words, hyphen, everything, is_number, is_name, is_byte, is_spellable, is_spellable_call, stands_in_word}
 use Rattle.script.specs.Words.{◌>>=◌, side_in, front_in, number_in, channel_in, name_in, bytes_in, count_in, is_same_side}
 use Rattle.script.specs.Steps.{step_word_in, offer_in, accept_in, write_in, read_in, deliver_in, step_by, step_in, later_words, built_words, begins_built}
-use Rattle.script.proofs.Tests.{tested, not_true, bytes_eq-same, same_from_bytes_eq, and_true, chosen, not_both}
+use Rattle.script.proofs.ByteTests.{tested, not_true, bytes_eq-same, same_from_bytes_eq, and_true, chosen, not_both}
 use Rattle.script.proofs.NumberLemmas.{number_in-decimal, number_in-some}
 use Rattle.script.proofs.HexWords.{bytes_in-written, bytes_in-some}
 
