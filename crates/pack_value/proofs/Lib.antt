@@ -6,3 +6,8 @@ pub mod Again
 pub mod Follows
 pub mod Settled
 pub mod Fronts
+pub mod Keeps
+pub mod Lists
+pub mod ShortHeads
+pub mod Spelled
+pub mod Apart
