@@ -1,0 +1,6 @@
+pub mod WholeFrames
+pub mod Growing
+pub mod Links
+pub mod PlainFrames
+pub mod Plain
+pub mod Safety

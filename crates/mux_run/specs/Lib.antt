@@ -1,1 +1,7 @@
 pub mod Built
+pub mod Cuts
+pub mod Run
+pub mod Safe
+pub mod Linked
+pub mod Plain
+pub mod Answers

@@ -2,7 +2,9 @@
 #![tactic(auto)]
 
 mod answers;
+mod laws;
 mod steps;
 
 pub use answers::{DuoAnswer, EndEvent, EventList, Reply};
+pub use laws::every_run_is_safe;
 pub use steps::{Call, Side, Step, StepList};
