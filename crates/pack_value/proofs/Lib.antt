@@ -8,6 +8,5 @@ pub mod Settled
 pub mod Fronts
 pub mod Keeps
 pub mod Lists
-pub mod ShortHeads
 pub mod Spelled
 pub mod Apart

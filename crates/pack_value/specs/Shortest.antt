@@ -1,65 +1,16 @@
 -- The shortest spelling of a value (MessagePack specification, "Formats"), and which values have one.
-use Rattle.std.specs.Prelude.{◌≡◌, ℕ, ◌+◌, ◌-◌, ◌≤◌, List, [], ◌∷◌, ◌++◌, length, take, Bool, true, false, ◌&&◌, ℤ, pos, negsuc, nat_lt, nat_le, if◌then◌else◌, IsUtf8}
-use Rattle.std.specs.Int.{w16, w32, w64, to_be_bytes}
+use Rattle.std.specs.Prelude.{◌≡◌, ℕ, ◌≤◌, List, [], ◌∷◌, ◌++◌, length, take, Bool, true, false, ◌&&◌, nat_le, IsUtf8}
 use Rattle.wire_base.specs.Tree.{Tree, nil, flag, whole, words, bytes, items, pairs, Trees, no_items, item, Pairs, no_pairs, pair}
 use Rattle.wire_base.specs.Whole.{IsWhole}
+use Rattle.wire_base.specs.Shortest.{whole_text, str_head, bin_head, array_head, map_head}
 use Rattle.pack_value.specs.Spelling.{count, pair_count, max_len}
 
--- A number that isn't negative, as fixint or the shortest uint.
-unfoldable pub unsigned : ℕ → List ℕ
-unsigned n =
-    if nat_lt n 0x80 then n ∷ []
-    else if nat_lt n 0x100 then 0xcc ∷ n ∷ []
-    else if nat_lt n 0x10000 then 0xcd ∷ to_be_bytes w16 n
-    else if nat_lt n 0x100000000 then 0xce ∷ to_be_bytes w32 n
-    else 0xcf ∷ to_be_bytes w64 n
-
--- The number -(k + 1), as negative fixint or the shortest int, in two's complement.
-unfoldable pub negative : ℕ → List ℕ
-negative k =
-    if nat_lt k 0x20 then (0xff - k) ∷ []
-    else if nat_lt k 0x80 then 0xd0 ∷ (0xff - k) ∷ []
-    else if nat_lt k 0x8000 then 0xd1 ∷ to_be_bytes w16 (0xffff - k)
-    else if nat_lt k 0x80000000 then 0xd2 ∷ to_be_bytes w32 (0xffffffff - k)
-    else 0xd3 ∷ to_be_bytes w64 (0xffffffffffffffff - k)
-
-unfoldable pub number : ℤ → List ℕ
-number (pos n) = unsigned n
-number (negsuc k) = negative k
-
--- The shortest head of a text of n bytes.
-unfoldable pub str_head : ℕ → List ℕ
-str_head n =
-    if nat_lt n 32 then (0xa0 + n) ∷ []
-    else if nat_lt n 0x100 then 0xd9 ∷ n ∷ []
-    else if nat_lt n 0x10000 then 0xda ∷ to_be_bytes w16 n
-    else 0xdb ∷ to_be_bytes w32 n
-
--- The shortest head of n bytes.
-unfoldable pub bin_head : ℕ → List ℕ
-bin_head n =
-    if nat_lt n 0x100 then 0xc4 ∷ n ∷ []
-    else if nat_lt n 0x10000 then 0xc5 ∷ to_be_bytes w16 n
-    else 0xc6 ∷ to_be_bytes w32 n
-
--- The shortest head of an array of n items.
-unfoldable pub array_head : ℕ → List ℕ
-array_head n =
-    if nat_lt n 16 then (0x90 + n) ∷ []
-    else if nat_lt n 0x10000 then 0xdc ∷ to_be_bytes w16 n
-    else 0xdd ∷ to_be_bytes w32 n
-
--- The shortest head of a map of n pairs.
-unfoldable pub map_head : ℕ → List ℕ
-map_head n =
-    if nat_lt n 16 then (0x80 + n) ∷ []
-    else if nat_lt n 0x10000 then 0xde ∷ to_be_bytes w16 n
-    else 0xdf ∷ to_be_bytes w32 n
-
+-- A flag's one byte.
 unfoldable pub flag_byte : Bool → List ℕ
 flag_byte false = 0xc2 ∷ []
 flag_byte true = 0xc3 ∷ []
 
+-- A text's shortest spelling.
 abbrev pub text : List ℕ → List ℕ
 text s = str_head (length s) ++ s
 
@@ -68,7 +19,7 @@ abbrev mutual
   pub shortest : Tree → List ℕ
   shortest nil = 0xc0 ∷ []
   shortest (flag b) = flag_byte b
-  shortest (whole z) = number z
+  shortest (whole z) = whole_text z
   shortest (words s) = text s
   shortest (bytes s) = bin_head (length s) ++ s
   shortest (items ts) = array_head (count ts) ++ shortest_items ts
@@ -124,7 +75,7 @@ abbrev mutual
   ArePairs no_pairs = Unit {0}
   ArePairs (pair k t ps) = (IsText k × IsValue t) × ArePairs ps
 
--- The same of one key and its value.
+-- The same three of one key and its value.
 abbrev pub shortest_entry : List ℕ × Tree → List ℕ
 shortest_entry p = text p.0 ++ shortest p.1
 

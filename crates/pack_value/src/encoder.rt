@@ -1,11 +1,14 @@
-ghost use Rattle.std.specs.Prelude.{◌≡◌, ◌≤◌, ◌<◌, ◌^◌, ◌++◌, ◌↔◌, length, IsTrue, OnOk, OnErr, IsErrOf, true, false};
+ghost use Rattle.std.specs.Prelude.{◌≡◌, ◌≤◌, ◌<◌, ◌++◌, ◌↔◌, length, IsTrue, OnOk, OnErr, IsErrOf, true, false};
 ghost use Rattle.wire_base.specs.Tree.{trees_of, pairs_of};
-ghost use Rattle.wire_base.specs.Whole.{IsWhole};
+ghost use Rattle.wire_base.specs.Shortest.{bin_head};
 ghost use Rattle.pack_value.specs.Spelling.{IsSpelling, max_len, max_nesting, nesting, nestings, pair_nestings};
-ghost use Rattle.pack_value.specs.Shortest.{KeepsFront, IsText, IsEntry, entry_fits, shortest_entry, IsValue, AreValues, ArePairs, lengths_fit, item_lengths_fit, pair_lengths_fit, shortest, shortest_items, shortest_pairs, text, number, unsigned, negative, str_head, bin_head, array_head, map_head, flag_byte};
+ghost use Rattle.pack_value.specs.Shortest.{KeepsFront, IsText, IsEntry, entry_fits, shortest_entry, IsValue, AreValues, ArePairs, lengths_fit, item_lengths_fit, pair_lengths_fit, shortest, shortest_items, shortest_pairs, text};
 
 use crate::encode_fault::EncodeFault;
-use wire_base::{Datum, DatumList, Node, OutOfMemory, PairList, Text, Whole};
+use wire_base::{
+    Datum, DatumList, Node, OutOfMemory, PairList, Text, push_array_head, push_bin_head,
+    push_map_head, push_str_head, push_whole,
+};
 
 const MAX_LEN: usize = 16_777_216;
 
@@ -115,145 +118,13 @@ fn pair_fits(pair: &(Text, Datum)) -> bool
     text_fits(&pair.0) && fits(&pair.1)
 }
 
-#[tactic(auto, using(crate::proofs::Keeps::keeps), unfolding(crate::specs::Shortest::unsigned))]
-fn put_unsigned(n: u64, out: &mut Vec<u8>) -> Result<(), OutOfMemory>
-    ensures ok { OnOk result (out.new.items ≡ out.old.items ++ unsigned n) }
-    ensures err { OnErr result (KeepsFront out.old.items out.new.items) }
-{
-    if n < 0x80 {
-        out.push(n as u8)?;
-    } else if n < 0x100 {
-        out.extend_from_slice(&[0xcc, n as u8])?;
-    } else if n < 0x1_0000 {
-        out.push(0xcd)?;
-        out.extend_from_slice(&(n as u16).to_be_bytes())?;
-    } else if n < 0x1_0000_0000 {
-        out.push(0xce)?;
-        out.extend_from_slice(&(n as u32).to_be_bytes())?;
-    } else {
-        out.push(0xcf)?;
-        out.extend_from_slice(&n.to_be_bytes())?;
-    }
-    Ok(())
-}
-
-/// The number -(k + 1).
-#[tactic(auto, using(crate::proofs::Keeps::keeps), unfolding(crate::specs::Shortest::negative))]
-fn put_negative(k: u64, out: &mut Vec<u8>) -> Result<(), OutOfMemory>
-    ensures ok { OnOk result (out.new.items ≡ out.old.items ++ negative k) }
-    ensures err { OnErr result (KeepsFront out.old.items out.new.items) }
-{
-    if k < 0x20 {
-        out.push(0xff - k as u8)?;
-    } else if k < 0x80 {
-        out.extend_from_slice(&[0xd0, 0xff - k as u8])?;
-    } else if k < 0x8000 {
-        out.push(0xd1)?;
-        out.extend_from_slice(&(0xffff - k as u16).to_be_bytes())?;
-    } else if k < 0x8000_0000 {
-        out.push(0xd2)?;
-        out.extend_from_slice(&(0xffff_ffff - k as u32).to_be_bytes())?;
-    } else {
-        out.push(0xd3)?;
-        out.extend_from_slice(&(0xffff_ffff_ffff_ffff - k).to_be_bytes())?;
-    }
-    Ok(())
-}
-
-#[tactic(auto, unfolding(crate::specs::Shortest::number))]
-fn put_number(n: i128, out: &mut Vec<u8>) -> Result<(), OutOfMemory>
-    requires { IsWhole n }
-    ensures ok { OnOk result (out.new.items ≡ out.old.items ++ number n) }
-    ensures err { OnErr result (KeepsFront out.old.items out.new.items) }
-{
-    if n >= 0 {
-        put_unsigned(n as u64, out)
-    } else {
-        put_negative((-1 - n) as u64, out)
-    }
-}
-
-#[tactic(auto, using(crate::proofs::Keeps::keeps), unfolding(crate::specs::Shortest::str_head))]
-fn put_str_head(n: usize, out: &mut Vec<u8>) -> Result<(), OutOfMemory>
-    requires { n ≤ max_len }
-    ensures ok { OnOk result (out.new.items ≡ out.old.items ++ str_head n) }
-    ensures err { OnErr result (KeepsFront out.old.items out.new.items) }
-{
-    if n < 32 {
-        out.push(0xa0 + n as u8)?;
-    } else if n < 0x100 {
-        out.extend_from_slice(&[0xd9, n as u8])?;
-    } else if n < 0x1_0000 {
-        out.push(0xda)?;
-        out.extend_from_slice(&(n as u16).to_be_bytes())?;
-    } else {
-        out.push(0xdb)?;
-        out.extend_from_slice(&(n as u32).to_be_bytes())?;
-    }
-    Ok(())
-}
-
-#[tactic(auto, using(crate::proofs::Keeps::keeps), unfolding(crate::specs::Shortest::bin_head))]
-fn put_bin_head(n: usize, out: &mut Vec<u8>) -> Result<(), OutOfMemory>
-    requires { n ≤ max_len }
-    ensures ok { OnOk result (out.new.items ≡ out.old.items ++ bin_head n) }
-    ensures err { OnErr result (KeepsFront out.old.items out.new.items) }
-{
-    if n < 0x100 {
-        out.extend_from_slice(&[0xc4, n as u8])?;
-    } else if n < 0x1_0000 {
-        out.push(0xc5)?;
-        out.extend_from_slice(&(n as u16).to_be_bytes())?;
-    } else {
-        out.push(0xc6)?;
-        out.extend_from_slice(&(n as u32).to_be_bytes())?;
-    }
-    Ok(())
-}
-
-#[tactic(auto, using(crate::proofs::Keeps::keeps), unfolding(crate::specs::Shortest::array_head))]
-fn put_array_head(n: usize, out: &mut Vec<u8>) -> Result<(), OutOfMemory>
-    requires { n ≤ max_len }
-    ensures ok { OnOk result (out.new.items ≡ out.old.items ++ array_head n) }
-    ensures err { OnErr result (KeepsFront out.old.items out.new.items) }
-{
-    if n < 16 {
-        out.push(0x90 + n as u8)?;
-    } else if n < 0x1_0000 {
-        out.push(0xdc)?;
-        out.extend_from_slice(&(n as u16).to_be_bytes())?;
-    } else {
-        out.push(0xdd)?;
-        out.extend_from_slice(&(n as u32).to_be_bytes())?;
-    }
-    Ok(())
-}
-
-#[tactic(auto, using(crate::proofs::Keeps::keeps), unfolding(crate::specs::Shortest::map_head))]
-fn put_map_head(n: usize, out: &mut Vec<u8>) -> Result<(), OutOfMemory>
-    requires { n ≤ max_len }
-    ensures ok { OnOk result (out.new.items ≡ out.old.items ++ map_head n) }
-    ensures err { OnErr result (KeepsFront out.old.items out.new.items) }
-{
-    if n < 16 {
-        out.push(0x80 + n as u8)?;
-    } else if n < 0x1_0000 {
-        out.push(0xde)?;
-        out.extend_from_slice(&(n as u16).to_be_bytes())?;
-    } else {
-        out.push(0xdf)?;
-        out.extend_from_slice(&(n as u32).to_be_bytes())?;
-    }
-    Ok(())
-}
-
 #[tactic(auto, using(crate::proofs::Keeps::keeps))]
 fn put_text(s: &[u8], out: &mut Vec<u8>) -> Result<(), OutOfMemory>
     requires { length s.now ≤ max_len }
     ensures ok { OnOk result (out.new.items ≡ out.old.items ++ text s.now) }
     ensures err { OnErr result (KeepsFront out.old.items out.new.items) }
 {
-    put_str_head(s.len(), out)?;
+    push_str_head(out, s.len() as u32)?;
     out.extend_from_slice(s)?;
     Ok(())
 }
@@ -264,7 +135,7 @@ fn put_bytes(s: &[u8], out: &mut Vec<u8>) -> Result<(), OutOfMemory>
     ensures ok { OnOk result (out.new.items ≡ out.old.items ++ (bin_head (length s.now) ++ s.now)) }
     ensures err { OnErr result (KeepsFront out.old.items out.new.items) }
 {
-    put_bin_head(s.len(), out)?;
+    push_bin_head(out, s.len() as u32)?;
     out.extend_from_slice(s)?;
     Ok(())
 }
@@ -317,15 +188,15 @@ fn put_value(value: &Datum, out: &mut Vec<u8>) -> Result<(), OutOfMemory>
     match &value.node {
         Node::Nil => out.push(0xc0)?,
         Node::Flag(flag) => out.push(if *flag { 0xc3 } else { 0xc2 })?,
-        Node::Whole(whole) => put_number(whole.get(), out)?,
+        Node::Whole(whole) => push_whole(out, *whole)?,
         Node::Words(text) => put_text(text.as_str().as_bytes(), out)?,
         Node::Bytes(blob) => put_bytes(blob.as_bytes(), out)?,
         Node::Items(items) => {
-            put_array_head(items.len(), out)?;
+            push_array_head(out, items.len() as u32)?;
             put_items(items, out)?;
         }
         Node::Pairs(pairs) => {
-            put_map_head(pairs.len(), out)?;
+            push_map_head(out, pairs.len() as u32)?;
             put_pairs(pairs, out)?;
         }
     }
