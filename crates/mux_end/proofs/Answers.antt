@@ -33,7 +33,8 @@ use Rattle.mux_end.specs.Lane.{Lane, lane_of, channel_of}
 use Rattle.mux_end.specs.Stands.{EndValue, IsBuilt, MuxStands, is_built_item, state_by, state_of}
 use Rattle.mux_end.specs.Replies.{Adds, CallAnswers, built_refusal, Next, Applies, Waits, Refuses, next_by, next_taken, next_from, next_of, refused_at, StepAnswers, KeepsPiece, FeedAnswers, is_spent}
 use Rattle.mux_end.specs.Tests.{lane_read_refusal, lane_frame_refusal, unread_in}
-use Rattle.mux_end.specs.Ends.{with_state, end_after, with_applied}
+use Rattle.mux_end.specs.Ends.{with_state, with_rest, end_after, with_applied, end_refusal, AppliesFrame, AppliesFront}
+use Rattle.wire_base.specs.declared.out_of_memory.OutOfMemory.{OutOfMemory}
 use Rattle.mux_end.proofs.Plain.{same_key-true, is_known-one, termination_emitted-built, party_of-built, unread-built}
 use Rattle.mux_end.proofs.Tells.{known_one}
 use Rattle.mux_end.proofs.Steps.{keys_one, refuses_frame, adds_taken, adds_applied, adds_ended, running_of, ended_none}
@@ -167,3 +168,82 @@ pub step_ended : (old : EndValue) (items : List Item) (at : ℕ) (rest : List �
     → StepAnswers old old items at rest (ended items) (next_of old.version items at rest) (step.Ended c)
 step_ended old items at rest c s is =
     answers_at old old items at rest (ended items) (Some c) (next_of old.version items at rest) (next_of old.version items at rest) (step.Ended c) (ended_is old items at rest c s is) refl (ended_at old items at rest c (next_of old.version items at rest))
+
+-- a step by what the end makes of its front
+whole_answers : (old new : EndValue) (items : List Item) (at : ℕ) (rest : List ℕ) (frame : Frame) (size : ℕ) (refused : Option Reason) (reply : MuxStep) → MuxStands old items at rest → old.version ≡ version.Three → old.state ≡ state.Running
+    → front old.version old.rest ≡ Whole frame size → end_refusal (taken_frame Neither frame) old ≡ refused → AppliesFrame old new (taken_frame Neither frame) size refused reply
+    → StepAnswers old new items at rest (ended items) (next_of old.version items at rest) reply
+whole_answers old new items at rest frame size None (step.Event e) s three run first ok h =
+    let f = taken_frame Neither frame in
+    subst (λ n. StepAnswers old n items at rest (ended items) (next_of old.version items at rest) (step.Event e)) (sym h.1)
+      (subst (λ e. StepAnswers old (with_applied size (end_after f.key f.body old)) items at rest (ended items) (next_of old.version items at rest) (step.Event e)) (sym h.0) (step_applied old items at rest frame size s three run first ok))
+whole_answers old new items at rest frame size None step.Short s three run first ok h = absurd h
+whole_answers old new items at rest frame size None (step.Ended c) s three run first ok h = absurd h
+whole_answers old new items at rest frame size None step.Stopped s three run first ok h = absurd h
+whole_answers old new items at rest frame size None step.OutOfMemory s three run first ok h = step_starved old new items at rest s run h
+whole_answers old new items at rest frame size (Some r) (step.Event e) s three run first bad h = absurd h
+whole_answers old new items at rest frame size (Some r) step.Short s three run first bad h = absurd h
+whole_answers old new items at rest frame size (Some r) (step.Ended c) s three run first bad h =
+    subst (λ n. StepAnswers old n items at rest (ended items) (next_of old.version items at rest) (step.Ended c)) (sym h.1)
+      (subst (λ c. StepAnswers old (with_state (state.Ended c) old) items at rest (ended items) (next_of old.version items at rest) (step.Ended c)) (sym h.0) (step_refused old items at rest frame size r s three run first bad))
+whole_answers old new items at rest frame size (Some r) step.Stopped s three run first bad h = absurd h
+whole_answers old new items at rest frame size (Some r) step.OutOfMemory s three run first bad h = absurd h
+
+front_answers : (old new : EndValue) (items : List Item) (at : ℕ) (rest : List ℕ) (first : Front) (reply : MuxStep) → MuxStands old items at rest → old.version ≡ version.Three → old.state ≡ state.Running
+    → front old.version old.rest ≡ first → AppliesFront old new first reply → StepAnswers old new items at rest (ended items) (next_of old.version items at rest) reply
+front_answers old new items at rest (Whole frame size) (step.Event e) s three run is h = whole_answers old new items at rest frame size (end_refusal (taken_frame Neither frame) old) (step.Event e) s three run is refl h
+front_answers old new items at rest (Whole frame size) step.Short s three run is h = whole_answers old new items at rest frame size (end_refusal (taken_frame Neither frame) old) step.Short s three run is refl h
+front_answers old new items at rest (Whole frame size) (step.Ended c) s three run is h = whole_answers old new items at rest frame size (end_refusal (taken_frame Neither frame) old) (step.Ended c) s three run is refl h
+front_answers old new items at rest (Whole frame size) step.Stopped s three run is h = whole_answers old new items at rest frame size (end_refusal (taken_frame Neither frame) old) step.Stopped s three run is refl h
+front_answers old new items at rest (Whole frame size) step.OutOfMemory s three run is h = step_starved old new items at rest s run h
+front_answers old new items at rest Short (step.Event e) s three run is h = absurd h
+front_answers old new items at rest Short step.Short s three run is h = subst (λ n. StepAnswers old n items at rest (ended items) (next_of old.version items at rest) step.Short) (sym h) (step_waits old items at rest s run is)
+front_answers old new items at rest Short (step.Ended c) s three run is h = absurd h
+front_answers old new items at rest Short step.Stopped s three run is h = absurd h
+front_answers old new items at rest Short step.OutOfMemory s three run is h = step_starved old new items at rest s run h
+front_answers old new items at rest (Broken offset r) (step.Event e) s three run is h = absurd h
+front_answers old new items at rest (Broken offset r) step.Short s three run is h = absurd h
+front_answers old new items at rest (Broken offset r) (step.Ended c) s three run is h =
+    subst (λ n. StepAnswers old n items at rest (ended items) (next_of old.version items at rest) (step.Ended c)) (sym h.1)
+      (subst (λ c. StepAnswers old (with_state (state.Ended c) old) items at rest (ended items) (next_of old.version items at rest) (step.Ended c)) (sym h.0) (step_broken old items at rest offset r s three run is))
+front_answers old new items at rest (Broken offset r) step.Stopped s three run is h = absurd h
+front_answers old new items at rest (Broken offset r) step.OutOfMemory s three run is h = step_starved old new items at rest s run h
+
+pub step_answers : (old new : EndValue) (items : List Item) (at : ℕ) (rest : List ℕ) (reply : MuxStep) → MuxStands old items at rest → old.version ≡ version.Three → old.state ≡ state.Running
+    → AppliesFront old new (front old.version old.rest) reply → StepAnswers old new items at rest (ended items) (next_of old.version items at rest) reply
+step_answers old new items at rest reply s three run h = front_answers old new items at rest (front old.version old.rest) reply s three run refl h
+
+-- feeding
+feed_at : (old new : EndValue) (items : List Item) (at : ℕ) (rest piece : List ℕ) (over over' : Option Cause) (spent spent' : Bool) (reply : Result EndState OutOfMemory) → over ≡ over' → spent ≡ spent'
+    → FeedAnswers old new items at rest piece over' spent' reply → FeedAnswers old new items at rest piece over spent reply
+feed_at old new items at rest piece over over' spent spent' reply p q h = subst (λ o. FeedAnswers old new items at rest piece o spent reply) (sym p) (subst (λ b. FeedAnswers old new items at rest piece over' b reply) (sym q) h)
+
+spent_is : (old : EndValue) (items : List Item) (at : ℕ) (rest piece : List ℕ) → MuxStands old items at rest → is_spent at rest piece ≡ nat_lt most_bytes (old.at + length old.rest + length piece)
+spent_is old items at rest piece s = λ i. nat_lt most_bytes (sym s.at_is i + length (sym s.rest_is i) + length piece)
+
+pub feed_ended : (old : EndValue) (items : List Item) (at : ℕ) (rest piece : List ℕ) (c : Cause) → MuxStands old items at rest → old.state ≡ state.Ended c
+    → FeedAnswers old old items at rest piece (ended items) (is_spent at rest piece) (Ok (state.Ended c))
+feed_ended old items at rest piece c s is =
+    subst (λ o. FeedAnswers old old items at rest piece o (is_spent at rest piece) (Ok (state.Ended c))) (sym (ended_is old items at rest c s is)) (refl, refl)
+
+pub feed_keeps : (old : EndValue) (items : List Item) (at : ℕ) (rest piece : List ℕ) → MuxStands old items at rest → old.state ≡ state.Running → nat_lt most_bytes (old.at + length old.rest + length piece) ≡ false
+    → FeedAnswers old (with_rest (old.rest ++ piece) old) items at rest piece (ended items) (is_spent at rest piece) (Ok state.Running)
+feed_keeps old items at rest piece s run room =
+    feed_at old (with_rest (old.rest ++ piece) old) items at rest piece (ended items) None (is_spent at rest piece) false (Ok state.Running) (going_on old items at rest s run) (spent_is old items at rest piece s ∙ room)
+      (refl, record {
+        stands = stands_kept old (with_rest (old.rest ++ piece) old) items at at rest (rest ++ piece) s refl refl refl s.at_is (ap (λ bytes. bytes ++ piece) s.rest_is);
+        output = refl;
+        version = refl;
+        nonce = refl;
+      })
+
+pub feed_spent : (old : EndValue) (items : List Item) (at : ℕ) (rest piece : List ℕ) → MuxStands old items at rest → old.version ≡ version.Three → old.state ≡ state.Running → nat_lt most_bytes (old.at + length old.rest + length piece) ≡ true
+    → FeedAnswers old (with_state (state.Ended cause.Spent) old) items at rest piece (ended items) (is_spent at rest piece) (Ok (state.Ended cause.Spent))
+feed_spent old items at rest piece s three run over =
+    feed_at old (with_state (state.Ended cause.Spent) old) items at rest piece (ended items) None (is_spent at rest piece) true (Ok (state.Ended cause.Spent)) (going_on old items at rest s run) (spent_is old items at rest piece s ∙ over)
+      (refl, adds_ended old items at rest cause.Spent s three run)
+
+pub feed_starved : (old new : EndValue) (items : List Item) (at : ℕ) (rest piece : List ℕ) (e : OutOfMemory) → MuxStands old items at rest → old.state ≡ state.Running → nat_lt most_bytes (old.at + length old.rest + length piece) ≡ false → new.state ≡ state.Stopped
+    → FeedAnswers old new items at rest piece (ended items) (is_spent at rest piece) (Err e)
+feed_starved old new items at rest piece e s run room is =
+    feed_at old new items at rest piece (ended items) None (is_spent at rest piece) false (Err e) (going_on old items at rest s run) (spent_is old items at rest piece s ∙ room) is
