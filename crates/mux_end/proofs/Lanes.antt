@@ -38,9 +38,6 @@ same_sendable a a' g g' ws ws' p q r = λ i. emitted_by version.Three (p i) (q i
 pub emitted_sendable : (c : ChannelKey) (items : List Item) → list_all is_built_item items ≡ true → is_running items ≡ true → (lane_of version.Three c items).emitted ≡ sendable (lane_of version.Three c items)
 emitted_sendable c items each running = emitted-running version.Three c items each running
 
-pub with_emitted-running : (c : ChannelKey) (items : List Item) → list_all is_built_item items ≡ true → is_running items ≡ true → with_emitted (lane_of version.Three c items) ≡ lane_of version.Three c items
-with_emitted-running c items each running = ap (λ n. let l : Lane = record (lane_of version.Three c items) { emitted = n } in l) (sym (emitted_sendable c items each running))
-
 -- the lane where the end still runs is this one, with all emitted that may be
 lane_by : (c : ChannelKey) (items : List Item) (lane : Lane) → list_all is_built_item items ≡ true → is_running items ≡ true
     → c ≡ lane.key → window c items ≡ lane.window → is_accepted version.Three c items ≡ lane.accepted → granted version.Three c items ≡ lane.granted → acknowledged version.Three c items ≡ lane.acknowledged

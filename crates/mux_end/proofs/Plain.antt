@@ -53,9 +53,6 @@ or_false false = refl
 pub each_rest : (item : Item) (items : List Item) → list_all is_built_item (item ∷ items) ≡ true → list_all is_built_item items ≡ true
 each_rest item items each = (and_parts (is_built_item item) (list_all is_built_item items) each).1
 
-pub each_first : (item : Item) (items : List Item) → list_all is_built_item (item ∷ items) ≡ true → is_built_item item ≡ true
-each_first item items each = (and_parts (is_built_item item) (list_all is_built_item items) each).0
-
 pub has_terminated-built : (c : ChannelKey) (items : List Item) → list_all is_built_item items ≡ true → has_terminated c items ≡ false
 has_terminated-built c [] each = refl
 has_terminated-built c (DidTerminate key ∷ items) each = absurd (false≢true each)
@@ -211,12 +208,6 @@ emitted_by_read v c key max items = elim (cases_Bool (is_cut c items)) [
 ]
 
 -- channels that are known
-same_bool-sym : (a b : Bool) → same_bool a b ≡ same_bool b a
-same_bool-sym true true = refl
-same_bool-sym true false = refl
-same_bool-sym false true = refl
-same_bool-sym false false = refl
-
 pub same_key-sym : (a b : ChannelKey) → same_key a b ≡ same_key b a
 same_key-sym a b = elim (cases_Bool (same_key a b)) [
   | inl same ↦ let e = same_key-true a b same in ap (λ k. same_key k b) e ∙ sym (ap (λ k. same_key b k) e)
