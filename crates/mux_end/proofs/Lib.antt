@@ -9,3 +9,5 @@ pub mod Shows
 pub mod Taking
 pub mod Steps
 pub mod Answers
+pub mod Stepping
+pub mod Reading

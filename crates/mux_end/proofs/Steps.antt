@@ -365,7 +365,7 @@ pub next_key_is : (old : EndValue) (items : List Item) (at : ℕ) (rest : List �
 next_key_is old items at rest s three run none =
     next_key-none items s.built.each (allowed_at old items at rest s three) (running_of old items at rest s run) (keys_none old items at rest s three none)
 
-over_running : (stands : EndState) (r : Option Refusal) → unless_over stands r ≡ None → stands ≡ state.Running
+pub over_running : (stands : EndState) (r : Option Refusal) → unless_over stands r ≡ None → stands ≡ state.Running
 over_running state.Running r e = refl
 over_running (state.Ended cause) r e = absurd (cc)
 over_running state.Stopped r e = absurd (cc)

@@ -292,7 +292,8 @@ impl MuxEnd {
     }
 
     fn accept_refusal(&self, key: ChannelKey, window: u32) -> Option<Refusal>
-        ensures { result ≡ lane_accept_refusal self.now.state self.now.channel key window }
+        ensures refusal { result ≡ lane_accept_refusal self.now.state self.now.channel key window }
+        ensures three { self.now.version ≡ Version.Three }
     {
         let refusal = match &self.channel {
             Some(channel) => channel.accept_refusal(key, window),
@@ -302,7 +303,8 @@ impl MuxEnd {
     }
 
     fn write_refusal(&self, key: ChannelKey, bytes: &[u8]) -> Option<Refusal>
-        ensures { result ≡ lane_write_refusal self.now.state self.now.channel key bytes.now }
+        ensures refusal { result ≡ lane_write_refusal self.now.state self.now.channel key bytes.now }
+        ensures three { self.now.version ≡ Version.Three }
     {
         let refusal = match &self.channel {
             Some(channel) => channel.write_refusal(key, bytes),
@@ -312,7 +314,8 @@ impl MuxEnd {
     }
 
     fn read_refusal(&self, key: ChannelKey) -> Option<Refusal>
-        ensures { result ≡ lane_read_refusal self.now.state self.now.channel key }
+        ensures refusal { result ≡ lane_read_refusal self.now.state self.now.channel key }
+        ensures three { self.now.version ≡ Version.Three }
     {
         let refusal = match &self.channel {
             Some(channel) => channel.read_refusal(key),
