@@ -1,5 +1,5 @@
 -- What an end of version 3 answers to calls.
-use Rattle.std.proofs.Common.{◌≡◌, ℕ, List, ◌∷◌, drop, true, Option, Some, None, Ok, Err, refl, sym, ◌∙◌, ap, subst}
+use Rattle.std.proofs.Common.{◌≡◌, ℕ, List, drop, true, Option, Some, None, Ok, Err, refl, sym, ◌∙◌, ap, subst}
 use Rattle.wire_base.specs.declared.frame.Version.TheVariants as version
 use Rattle.wire_base.specs.declared.refusal.Refusal.{Refusal}
 use Rattle.wire_base.specs.declared.fault.CallFault.TheVariants as fault
