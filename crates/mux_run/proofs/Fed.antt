@@ -36,11 +36,11 @@ greeting_item : (v : Version) (place : ℕ) (c : ChannelKey) (body : FrameBody) 
 greeting_item v place c body items true = refl
 greeting_item v place c body items false = refl
 
-greeting_by : (v : Version) (place : ℕ) (c : ChannelKey) (body : FrameBody) (items : List Item) (r : Option Reason) → greeting (after_frame v place c body items r) ≡ greeting items
+pub greeting_by : (v : Version) (place : ℕ) (c : ChannelKey) (body : FrameBody) (items : List Item) (r : Option Reason) → greeting (after_frame v place c body items r) ≡ greeting items
 greeting_by v place c body items None = greeting_item v place c body items (is_refused_room v body items)
 greeting_by v place c body items (Some reason) = refl
 
-greeting_frames : (v : Version) (place : ℕ) (fs : List ChannelFrame) (items : List Item) → greeting (apply_frames v place fs items) ≡ greeting items
+pub greeting_frames : (v : Version) (place : ℕ) (fs : List ChannelFrame) (items : List Item) → greeting (apply_frames v place fs items) ≡ greeting items
 greeting_frames v place [] items = refl
 greeting_frames v place (f ∷ fs) items = elim (cases_Bool (is_running items)) [
   | inl e ↦ ap greeting (apply_frames_more v place f fs items e) ∙ (greeting_frames v (place + length (frame_text v f)) fs (apply_frame v place (flip f).key f.body items)
@@ -56,13 +56,13 @@ greeting_item_of_call (call.Read c max) items = refl
 greeting_item_of_call (call.Complete c) items = refl
 greeting_item_of_call (call.Terminate c) items = refl
 
-greeting_called : (v : Version) (c : Call) (items : List Item) → greeting (called v c items) ≡ greeting items
+pub greeting_called : (v : Version) (c : Call) (items : List Item) → greeting (called v c items) ≡ greeting items
 greeting_called v c items = elim (call_refusal v c items) as (λ r. greeting (unless_refused r (item_of_call c items) items) ≡ greeting items) [
   | Some refusal ↦ refl
   | None ↦ greeting_item_of_call c items
 ]
 
-ready_same : (v : Version) (items after : List Item) → greeting after ≡ greeting items → is_ready v after ≡ is_ready v items
+pub ready_same : (v : Version) (items after : List Item) → greeting after ≡ greeting items → is_ready v after ≡ is_ready v items
 ready_same v items after e = ap (λ g. is_three v || is_greeted g) e
 
 -- the handshake
@@ -75,7 +75,7 @@ greeted_by w given items = elim (cases_Bool (is_running items && not (is_ready w
 ]
 
 -- a handshake that was applied was whole
-lie_greeted : (w : Ways) (given : ℕ) (items : List Item) (y : Half) → LieWithin w given items y → LieWithin w given (greeted w given items) y
+pub lie_greeted : (w : Ways) (given : ℕ) (items : List Item) (y : Half) → LieWithin w given items y → LieWithin w given (greeted w given items) y
 lie_greeted w given items y l = elim (greeted_by w given items) [
   | inl h ↦
       let front = and_parts (is_running items && not (is_ready w.version items)) (nat_le (greeting_size w) given) h.0 in
@@ -97,7 +97,7 @@ greet_ready w items = elim (bytes_eq w.own w.peer) as (λ b. is_running ((if b t
     ]
 
 -- an end that runs and isn't ready waits for more of the handshake
-short_greeted : (w : Ways) (given : ℕ) (items : List Item) → is_running (greeted w given items) ≡ true → is_ready w.version (greeted w given items) ≡ false → given < greeting_size w
+pub short_greeted : (w : Ways) (given : ℕ) (items : List Item) → is_running (greeted w given items) ≡ true → is_ready w.version (greeted w given items) ≡ false → given < greeting_size w
 short_greeted w given items runs unready = elim (greeted_by w given items) [
   | inl h ↦
       let now = greet_ready w items (ap is_running (sym h.1) ∙ runs) in
@@ -142,7 +142,7 @@ settled_fed w given items y l = by (is_ready w.version (greeted w given items)) 
         }
     by false e = record { lie = lie_greeted w given items y l; all = λ runs r. cc (e, r); short = λ runs u. short_greeted w given items runs u }
 
-lie_more : (w : Ways) (given more : ℕ) (items : List Item) (y : Half) → given ≤ more → LieWithin w given items y → LieWithin w more items y
+pub lie_more : (w : Ways) (given more : ℕ) (items : List Item) (y : Half) → given ≤ more → LieWithin w given items y → LieWithin w more items y
 lie_more w given more items y h l =
     let on = whole_more w.version (given - greeting_size w) (more - greeting_size w) (sent w.version y.items) (omega arith) in
     record {
@@ -151,16 +151,16 @@ lie_more w given more items y h l =
       within = omega (arith, l.within, ap length on.1, length-append (whole_frames w.version (given - greeting_size w) (sent w.version y.items)) on.0);
     }
 
-lie_same : (w : Ways) (given : ℕ) (items after : List Item) (y : Half) → got after ≡ got items → greeting after ≡ greeting items → LieWithin w given items y → LieWithin w given after y
+pub lie_same : (w : Ways) (given : ℕ) (items after : List Item) (y : Half) → got after ≡ got items → greeting after ≡ greeting items → LieWithin w given items y → LieWithin w given after y
 lie_same w given items after y same kept l =
     let ready = ready_same w.version items after kept in
     record { greeted = λ r. l.greeted (sym ready ∙ r); waits = λ u. same ∙ l.waits (sym ready ∙ u); within = omega (arith, ap length same, l.within) }
 
 -- an end that ended
-ended_fed : (w : Ways) (cause : Cause) (x y : Half) → IsFed w x y → IsFed w (record { items = End cause ∷ x.items; delivered = x.delivered }) y
+pub ended_fed : (w : Ways) (cause : Cause) (x y : Half) → IsFed w x y → IsFed w (record { items = End cause ∷ x.items; delivered = x.delivered }) y
 ended_fed w cause x y f = record { lie = lie_same w x.delivered x.items (End cause ∷ x.items) y refl refl f.lie; all = λ runs r. cc; short = λ runs u. cc }
 
-delivered_fed : (w : Ways) (n : ℕ) (x y : Half) → IsFed w x y → IsFed w (delivered_to w n x y) y
+pub delivered_fed : (w : Ways) (n : ℕ) (x y : Half) → IsFed w x y → IsFed w (delivered_to w n x y) y
 delivered_fed w n x y f = elim (is_running x.items) as (λ b. IsFed w (if not b then x else if is_spent w n x y then record { items = End cause.Spent ∷ x.items; delivered = x.delivered } else settled w (x.delivered + added w n x y) x.items y) y) [
   | true ↦ elim (is_spent w n x y) as (λ b. IsFed w (if b then record { items = End cause.Spent ∷ x.items; delivered = x.delivered } else settled w (x.delivered + added w n x y) x.items y) y) [
     | true ↦ ended_fed w cause.Spent x y f

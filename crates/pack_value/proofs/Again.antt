@@ -16,7 +16,7 @@ use Rattle.pack_value.specs.declared.fault.Fault.TheVariants.{Short, Refused}
 use Rattle.pack_value.specs.Reading.{◌>>=◌, Reader, counted, run_at, text_at, key_of, key_at, repeat, pair_at, behind, at_head, value_at, items_at, pairs_at}
 use Rattle.pack_value.specs.Spelling.{IsHead, IsHeaded, SpellsText, Spells, SpellsAll, SpellsPairs, nesting, nestings, pair_nestings, count, pair_count, max_len}
 use Rattle.pack_value.proofs.Levels.{value_at-is}
-use Rattle.pack_value.proofs.Heads.{head-more}
+use Rattle.wire_base.proofs.HeadLemmas.{head_stays}
 
 otherwise : {A : Type 0} (b : Bool) (x y : A) → b ≡ false → cond b x y ≡ y
 otherwise true x y e = absurd cc
@@ -59,7 +59,7 @@ opened h body b rest p =
     let regrouped : b ++ rest ≡ p.head ++ (body ++ rest) = ap (λ (s : List ℕ). s ++ rest) p.parts ∙ append_assoc p.head body rest in
     record {
       len = length p.head;
-      head = ap head_of regrouped ∙ head-more p.head (body ++ rest) h (length p.head) p.is_head;
+      head = ap head_of regrouped ∙ head_stays p.head (body ++ rest) h (length p.head) p.is_head;
       after = ap (λ (s : List ℕ). drop (length p.head) s) regrouped ∙ drop_at p.head (body ++ rest) (length p.head) refl;
     }
 

@@ -102,7 +102,7 @@ long : (b : Bool) (g h : TokenHead) (m n : ℕ) → cond b step.Short (step.Got 
 long true g h m n e = absurd cc
 long false g h m n e = cc
 
-pub never_refused : (b : Bool) (g : TokenHead) (m : ℕ) (r : Reason) → cond b step.Short (step.Got g m) ≡ step.Refused r → ⊥
+never_refused : (b : Bool) (g : TokenHead) (m : ℕ) (r : Reason) → cond b step.Short (step.Got g m) ≡ step.Refused r → ⊥
 never_refused true g m r e = cc
 never_refused false g m r e = cc
 

@@ -178,7 +178,7 @@ repeat_found d read reads (suc n) rest y e =
     subst (λ (y : List Tree × List ℕ). FoundAll (suc d) (suc n) rest y) (ok_is (a.0.0 ∷ b.0.0, b.0.1) y b.2)
     (record {
       body = p.front ++ q.body;
-      parts = p.parts ∙ ap (λ (s : List ℕ). p.front ++ s) q.parts ∙ sym (append_assoc p.front q.body b.0.1);
+      parts = p.parts ∙ ap (λ (s : List ℕ). p.front ++ s) q.parts ∙ simp append_assoc;
       spells = (p.front, q.body, refl, p.spells, q.spells);
       counts = omega (arith, q.counts);
       nests = omega (arith, p.nests, q.nests);

@@ -35,7 +35,7 @@ left_within bytes r left e =
     let b = broken_at (value max_nesting ∷ []) bytes r left (follows bytes (Err (Refused r left)) e []) in
     omega (arith, b.sum)
 
-abbrev Meets : List ℕ → Front → Type 0
+abbrev pub Meets : List ℕ → Front → Type 0
 Meets bytes (found t n) = IsAtFront bytes t n
 Meets bytes short = IsUndecided bytes
 Meets bytes (broken k r) = IsRefused bytes k r

@@ -1,69 +1,10 @@
 -- A head is its front, whatever follows.
-use Rattle.std.proofs.Common.{◌≡◌, ℕ, zero, suc, ◌+◌, ◌≤◌, ◌<◌, Bool, true, false, cond, ltb, List, [], ◌∷◌, ◌++◌, length, take, drop, refl, sym, ap, subst, ◌∙◌, arith, length-append, add-one}
-use Rattle.std.specs.Prelude.{pos}
-use Rattle.std.specs.Int.{Width, byte_len, from_be_bytes, cast_signed}
-use Rattle.std.proofs.lemmas.Bool.{ltb-false, le-ltb}
-use Rattle.std.proofs.lemmas.List.{take-take, take-append-le, length-take}
+use Rattle.std.proofs.Common.{◌≡◌, ℕ, ◌≤◌, List, [], ◌++◌, length, take, sym, ap, ◌∙◌, arith}
+use Rattle.std.proofs.lemmas.List.{append-nil, length-take}
 use Rattle.wire_base.specs.declared.token.TokenHead.{TokenHead}
-use Rattle.wire_base.specs.declared.token.TokenHead.TheVariants as token
-use Rattle.wire_base.specs.declared.token.HeadStep.{HeadStep}
-use Rattle.wire_base.specs.declared.token.HeadStep.TheVariants.{Got, Refused, Short}
-use Rattle.wire_base.specs.Head.{Kind, whole_head, unsigned, signed, str, bin, array, map, refused, kind_of, numbered, read_kind, head_of}
-
--- a test that left the bytes long enough
-long : (b : Bool) (g h : TokenHead) (m n : ℕ) → cond b Short (Got g m) ≡ Got h n → (b ≡ false) × (Got g m ≡ Got h n)
-long true g h m n e = absurd cc
-long false g h m n e = (refl, e)
-
-not_short : (b : Bool) (x : HeadStep) → b ≡ false → cond b Short x ≡ x
-not_short true x e = absurd cc
-not_short false x e = refl
-
--- what a reader behind the first byte took
-pub record Front (k : Kind) (rest : List ℕ) (h : TokenHead) (n : ℕ) : Type 0 where
-  pub len : ℕ
-  pub len_is : n ≡ len + 1
-  pub within : len ≤ length rest
-  pub same : read_kind k (take len rest) ≡ Got h n
-
-pub record NumberFront (w : Width) (f : ℕ → TokenHead) (rest : List ℕ) (h : TokenHead) (n : ℕ) : Type 0 where
-  pub len_is : n ≡ byte_len w + 1
-  pub within : byte_len w ≤ length rest
-  pub same : numbered w f (take (byte_len w) rest) ≡ Got h n
-
-size_is : (g h : TokenHead) (m n : ℕ) → Got g m ≡ Got h n → n ≡ m
-size_is g h m n e = cc
-
-numbered-front : (w : Width) (f : ℕ → TokenHead) (rest : List ℕ) (h : TokenHead) (n : ℕ) → numbered w f rest ≡ Got h n → NumberFront w f rest h n
-numbered-front w f rest h n e =
-    let k = byte_len w in
-    let p = long (ltb (length rest) k) (f (from_be_bytes w (take k rest))) h (k + 1) n e in
-    let le : k ≤ length rest = ltb-false (length rest) k p.0 in
-    let len : length (take k rest) ≡ k = simp length-take (omega arith) in
-    record {
-      len_is = size_is (f (from_be_bytes w (take k rest))) h (k + 1) n p.1;
-      within = le;
-      same = not_short (ltb (length (take k rest)) k) (Got (f (from_be_bytes w (take k (take k rest)))) (k + 1)) (le-ltb (length (take k rest)) k (omega (arith, len)))
-          ∙ ap (λ (s : List ℕ). Got (f (from_be_bytes w s)) (k + 1)) (take-take k k rest (omega arith)) ∙ p.1;
-    }
-
-by_number : (k : Kind) (w : Width) (f : ℕ → TokenHead) (rest : List ℕ) (h : TokenHead) (n : ℕ) → ((s : List ℕ) → read_kind k s ≡ numbered w f s) → read_kind k rest ≡ Got h n → Front k rest h n
-by_number k w f rest h n same e =
-    let p = numbered-front w f rest h n (sym (same rest) ∙ e) in
-    record { len = byte_len w; len_is = p.len_is; within = p.within; same = same (take (byte_len w) rest) ∙ p.same }
-
-kind-front : (k : Kind) (rest : List ℕ) (h : TokenHead) (n : ℕ) → read_kind k rest ≡ Got h n → Front k rest h n
-kind-front (whole_head g) rest h n e = record { len = 0; len_is = size_is g h 1 n e; within = omega arith; same = e }
-kind-front (unsigned w) rest h n e = by_number (unsigned w) w (λ x. token.Whole (pos x)) rest h n (λ s. refl) e
-kind-front (signed w) rest h n e = by_number (signed w) w (λ x. token.Whole (cast_signed w x)) rest h n (λ s. refl) e
-kind-front (str w) rest h n e = by_number (str w) w (λ x. token.Str x) rest h n (λ s. refl) e
-kind-front (bin w) rest h n e = by_number (bin w) w (λ x. token.Bin x) rest h n (λ s. refl) e
-kind-front (array w) rest h n e = by_number (array w) w (λ x. token.Array x) rest h n (λ s. refl) e
-kind-front (map w) rest h n e = by_number (map w) w (λ x. token.Map x) rest h n (λ s. refl) e
-kind-front (refused r) rest h n e = absurd cc
-
-cut_at : (b : ℕ) (rest : List ℕ) (n len : ℕ) → n ≡ len + 1 → take n (b ∷ rest) ≡ b ∷ take len rest
-cut_at b rest n len e = rw (e, add-one len) refl
+use Rattle.wire_base.specs.declared.token.HeadStep.TheVariants.{Got}
+use Rattle.wire_base.specs.Head.{head_of}
+use Rattle.wire_base.proofs.HeadLemmas.{head_within, head_front}
 
 pub record HeadFront (bytes : List ℕ) (h : TokenHead) (n : ℕ) : Type 0 where
   pub within : n ≤ length bytes
@@ -71,32 +12,6 @@ pub record HeadFront (bytes : List ℕ) (h : TokenHead) (n : ℕ) : Type 0 where
   pub same : head_of (take n bytes) ≡ Got h n
 
 pub head-front : (bytes : List ℕ) (h : TokenHead) (n : ℕ) → head_of bytes ≡ Got h n → HeadFront bytes h n
-head-front [] h n e = absurd cc
-head-front (b ∷ rest) h n e =
-    let p = kind-front (kind_of b) rest h n e in
-    let le : n ≤ length (b ∷ rest) = omega (arith, p.len_is, p.within) in
-    record { within = le; len = simp length-take (omega arith); same = ap head_of (cut_at b rest n p.len p.len_is) ∙ p.same }
-
--- ---- the same head, whatever follows
-
-numbered-more : (w : Width) (f : ℕ → TokenHead) (rest more : List ℕ) (h : TokenHead) (n : ℕ) → numbered w f rest ≡ Got h n → numbered w f (rest ++ more) ≡ Got h n
-numbered-more w f rest more h n e =
-    let k = byte_len w in
-    let p = long (ltb (length rest) k) (f (from_be_bytes w (take k rest))) h (k + 1) n e in
-    let le : k ≤ length rest = ltb-false (length rest) k p.0 in
-    not_short (ltb (length (rest ++ more)) k) (Got (f (from_be_bytes w (take k (rest ++ more)))) (k + 1)) (le-ltb (length (rest ++ more)) k (omega (arith, le, length-append rest more)))
-    ∙ ap (λ (s : List ℕ). Got (f (from_be_bytes w s)) (k + 1)) (take-append-le k rest more le) ∙ p.1
-
-kind-more : (k : Kind) (rest more : List ℕ) (h : TokenHead) (n : ℕ) → read_kind k rest ≡ Got h n → read_kind k (rest ++ more) ≡ Got h n
-kind-more (whole_head g) rest more h n e = e
-kind-more (unsigned w) rest more h n e = numbered-more w (λ x. token.Whole (pos x)) rest more h n e
-kind-more (signed w) rest more h n e = numbered-more w (λ x. token.Whole (cast_signed w x)) rest more h n e
-kind-more (str w) rest more h n e = numbered-more w (λ x. token.Str x) rest more h n e
-kind-more (bin w) rest more h n e = numbered-more w (λ x. token.Bin x) rest more h n e
-kind-more (array w) rest more h n e = numbered-more w (λ x. token.Array x) rest more h n e
-kind-more (map w) rest more h n e = numbered-more w (λ x. token.Map x) rest more h n e
-kind-more (refused r) rest more h n e = absurd cc
-
-pub head-more : (bytes more : List ℕ) (h : TokenHead) (n : ℕ) → head_of bytes ≡ Got h n → head_of (bytes ++ more) ≡ Got h n
-head-more [] more h n e = absurd cc
-head-more (b ∷ rest) more h n e = kind-more (kind_of b) rest more h n e
+head-front bytes h n e =
+    let within : n ≤ length bytes = (head_within bytes h n e).1 in
+    record { within = within; len = simp length-take (omega arith); same = head_front bytes h n e }

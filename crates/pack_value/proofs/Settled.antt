@@ -1,19 +1,17 @@
 -- What tokens say is said once, and stays whatever follows.
 use Rattle.std.proofs.Common.{◌≡◌, ℕ, zero, suc, ◌+◌, ◌≤◌, Bool, true, false, cond, ltb, List, [], ◌∷◌, ◌++◌, length, take, drop, Option, Some, None, refl, sym, ap, subst, ◌∙◌, arith, length-append, length-drop}
-use Rattle.std.specs.Int.{Width, byte_len, from_be_bytes, cast_signed}
-use Rattle.std.specs.Prelude.{pos}
 use Rattle.std.proofs.lemmas.List.{take-append-le, drop-append-le}
 use Rattle.std.proofs.lemmas.Bool.{ltb-false, le-ltb}
 use Rattle.wire_base.specs.declared.reason.Reason.{Reason}
 use Rattle.wire_base.specs.declared.token.TokenHead.{TokenHead}
-use Rattle.wire_base.specs.declared.token.TokenHead.TheVariants as token
 use Rattle.wire_base.specs.declared.token.HeadStep.{HeadStep}
 use Rattle.wire_base.specs.declared.token.HeadStep.TheVariants as step
-use Rattle.wire_base.specs.Head.{Kind, whole_head, unsigned, signed, str, bin, array, map, refused, kind_of, read_kind, head_of}
+use Rattle.wire_base.specs.Head.{kind_of, head_of}
 use Rattle.pack_value.specs.declared.fault.Fault.TheVariants.{Short, Refused}
 use Rattle.pack_value.specs.Tokens.{Want, levels, first_rule, length_rule, body_len, content_rule, wants_of, Next, takes, cut, breaks, or_next, next_by_content, next_by_head, next_of, BreaksAfter}
-use Rattle.pack_value.proofs.Heads.{head-front, head-more}
-use Rattle.pack_value.proofs.Follows.{Passes, Reaches, Stopped, never_refused}
+use Rattle.wire_base.proofs.HeadLemmas.{head_stays, refused_stays}
+use Rattle.pack_value.proofs.Heads.{head-front}
+use Rattle.pack_value.proofs.Follows.{Passes, Reaches, Stopped}
 
 -- ---- a token lies within the bytes
 
@@ -105,20 +103,6 @@ broken_at ws b r left p = rw (← p.says.1) (broken_later p.reach.turns ws b p.w
 
 -- ---- whatever follows
 
-kind_refused_more : (k : Kind) (rest more : List ℕ) (r : Reason) → read_kind k rest ≡ step.Refused r → read_kind k (rest ++ more) ≡ step.Refused r
-kind_refused_more (whole_head h) rest more r e = absurd cc
-kind_refused_more (unsigned w) rest more r e = absurd (never_refused (ltb (length rest) (byte_len w)) (token.Whole (pos (from_be_bytes w (take (byte_len w) rest)))) (byte_len w + 1) r e)
-kind_refused_more (signed w) rest more r e = absurd (never_refused (ltb (length rest) (byte_len w)) (token.Whole (cast_signed w (from_be_bytes w (take (byte_len w) rest)))) (byte_len w + 1) r e)
-kind_refused_more (str w) rest more r e = absurd (never_refused (ltb (length rest) (byte_len w)) (token.Str (from_be_bytes w (take (byte_len w) rest))) (byte_len w + 1) r e)
-kind_refused_more (bin w) rest more r e = absurd (never_refused (ltb (length rest) (byte_len w)) (token.Bin (from_be_bytes w (take (byte_len w) rest))) (byte_len w + 1) r e)
-kind_refused_more (array w) rest more r e = absurd (never_refused (ltb (length rest) (byte_len w)) (token.Array (from_be_bytes w (take (byte_len w) rest))) (byte_len w + 1) r e)
-kind_refused_more (map w) rest more r e = absurd (never_refused (ltb (length rest) (byte_len w)) (token.Map (from_be_bytes w (take (byte_len w) rest))) (byte_len w + 1) r e)
-kind_refused_more (refused s) rest more r e = e
-
-head_refused_more : (b more : List ℕ) (r : Reason) → head_of b ≡ step.Refused r → head_of (b ++ more) ≡ step.Refused r
-head_refused_more [] more r e = absurd cc
-head_refused_more (x ∷ rest) more r e = kind_refused_more (kind_of x) rest more r e
-
 -- a front that is long enough is the same front, whatever follows
 same_content : (t u : Bool) (x : Next) → u ≡ false → (cond t cut x ≡ cut → ⊥) → cond u cut x ≡ cond t cut x
 same_content true u x e settled = absurd (settled refl)
@@ -142,11 +126,11 @@ content_more w h n rest more settled =
 
 by_head_more : (w : Want) (s : HeadStep) (b more : List ℕ) → head_of b ≡ s → (next_by_head w s b ≡ cut → ⊥) → next_by_head w (head_of (b ++ more)) (b ++ more) ≡ next_by_head w s b
 by_head_more w step.Short b more h settled = absurd (settled refl)
-by_head_more w (step.Refused r) b more h settled = ap (λ s. next_by_head w s (b ++ more)) (head_refused_more b more r h)
+by_head_more w (step.Refused r) b more h settled = ap (λ s. next_by_head w s (b ++ more)) (refused_stays b more r h)
 by_head_more w (step.Got t k) b more h settled =
     let front = head-front b t k h in
     let e : drop k (b ++ more) ≡ drop k b ++ more = drop-append-le k b more front.within in
-    ap (λ s. next_by_head w s (b ++ more)) (head-more b more t k h)
+    ap (λ s. next_by_head w s (b ++ more)) (head_stays b more t k h)
     ∙ ap (λ (c : List ℕ). or_next (length_rule t) (next_by_content w t k c)) e
     ∙ or_settled (length_rule t) (next_by_content w t k (drop k b)) (next_by_content w t k (drop k b ++ more)) (content_more w t k (drop k b) more) settled
 

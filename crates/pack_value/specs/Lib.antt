@@ -2,3 +2,4 @@ pub mod Spelling
 pub mod Tokens
 pub mod Reading
 pub mod Answer
+pub mod Shortest

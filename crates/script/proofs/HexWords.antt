@@ -11,7 +11,7 @@ use Rattle.hex.specs.declared.error.FromHexError.{FromHexError}
 use Rattle.hex.proofs.HexLemmas.{decode_of-even, decode_of-encode_lower, decode_pairs-ok, length-encode_with}
 use Rattle.script.specs.Spelling.{hyphen, bytes_word}
 use Rattle.script.specs.Words.{bytes_in, is_capital, if_written}
-use Rattle.script.proofs.Tests.{bytes_eq-same, same_from_bytes_eq, or_false, not_true, tested}
+use Rattle.script.proofs.ByteTests.{bytes_eq-same, same_from_bytes_eq, or_false, not_true, tested}
 
 -- the digit of a value below 16
 abbrev pub glyph : ℕ → ℕ

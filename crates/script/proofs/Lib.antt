@@ -1,4 +1,4 @@
-mod Tests
+mod ByteTests
 mod LineLemmas
 mod NumberLemmas
 mod HexWords
@@ -9,3 +9,7 @@ mod LineTexts
 mod StepWords
 mod PlainWords
 mod StepLines
+mod Counts
+mod Scripts
+mod ScriptLaws
+mod AnswersOfRead

@@ -2,14 +2,9 @@
 use Rattle.std.proofs.Common.{◌≡◌, ℕ, Bool, true, false, cond, eqb, eqb-true, not, ◌&&◌, ◌==◌, List, [], ◌∷◌, ◌++◌, refl, sym, ap, ◌∙◌, inl, inr, if◌then◌else◌}
 use Rattle.std.specs.List.{list_all, flat_map}
 use Rattle.std.proofs.lemmas.Bool.{and_parts}
-use Rattle.script.specs.Spelling.{ended}
-use Rattle.script.specs.Lines.{TextLine, lines_of, onto_line}
-use Rattle.script.proofs.Tests.{tested}
-use Rattle.script.proofs.Splits.{stands_in_line}
-
--- the bytes of a line
-abbrev pub line_bytes : TextLine → List ℕ
-line_bytes line = if line.has_end then ended line.text else line.text
+use Rattle.script.specs.Spelling.{ended, stands_in_line}
+use Rattle.script.specs.Lines.{TextLine, lines_of, onto_line, line_bytes}
+use Rattle.script.proofs.ByteTests.{tested}
 
 not_false : (b : Bool) → not b ≡ true → b ≡ false
 not_false true h = cc

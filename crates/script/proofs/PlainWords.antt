@@ -21,12 +21,12 @@ use Rattle.mux_run.specs.declared.steps.Call.{Call}
 use Rattle.mux_run.specs.declared.steps.Call.TheVariants as call
 use Rattle.mux_run.specs.declared.steps.Step.{Step}
 use Rattle.mux_run.specs.declared.steps.Step.TheVariants as step
-use Rattle.script.specs.Spelling.{side_word, channel_word, offering_side, name_word, bytes_word, count_word, step_words, step_text, hyphen, everything, is_number, is_name, is_byte, is_spellable, stands_in_word}
+use Rattle.script.specs.Spelling.{side_word, channel_word, offering_side, name_word, bytes_word, count_word, step_words, step_text, hyphen, everything, is_number, is_name, is_byte, is_spellable, stands_in_word, stands_in_line}
 use Rattle.script.specs.Words.{words_of}
-use Rattle.script.proofs.Tests.{tested, and_true, or_false}
+use Rattle.script.proofs.ByteTests.{tested, and_true, or_false}
 use Rattle.script.proofs.NumberLemmas.{own}
 use Rattle.script.proofs.HexWords.{glyph, lower_is_glyph}
-use Rattle.script.proofs.Splits.{is_word, stands_in_line, words_of-joined}
+use Rattle.script.proofs.Splits.{is_word, words_of-joined}
 use Rattle.script.proofs.StepWords.{is_text_word}
 
 -- a visible ASCII byte

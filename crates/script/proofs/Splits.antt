@@ -6,17 +6,13 @@ use Rattle.std.specs.Str.{is_utf8}
 use Rattle.std.proofs.lemmas.Bool.{and_parts}
 use Rattle.std.proofs.lemmas.List.{take_at, drop_at, get_or_at, drop-drop}
 use Rattle.std.proofs.lemmas.Str.{IsUtf8-take, IsUtf8-drop, IsUtf8-from_is_utf8, is_utf8-from_IsUtf8, IsCharBoundary-before_ascii, IsCharBoundary-after_ascii}
-use Rattle.script.specs.Spelling.{stands_in_word}
+use Rattle.script.specs.Spelling.{stands_in_word, stands_in_line}
 use Rattle.script.specs.Words.{words_of}
-use Rattle.script.proofs.Tests.{not_parts, and_true, tested}
+use Rattle.script.proofs.ByteTests.{not_parts, and_true, tested}
 
 -- a list of bytes that is one word or empty
 abbrev pub is_word : List ℕ → Bool
 is_word word = list_all stands_in_word word
-
--- no line feed
-abbrev pub stands_in_line : ℕ → Bool
-stands_in_line b = not (eqb b 10)
 
 stands : (b : ℕ) → stands_in_word b ≡ true → (eqb b 32 ≡ false) × (eqb b 10 ≡ false)
 stands b h = not_parts (eqb b 32) (eqb b 10) h

@@ -23,8 +23,8 @@ use Rattle.script.specs.declared.step_word.StepWord.{StepWord}
 use Rattle.script.specs.declared.step_word.StepWord.TheVariants as word
 use Rattle.script.specs.Spelling.{side_word, channel_word, offering_side, peer_of, name_word, bytes_word, count_word, step_words, call_words, hyphen, everything, is_number, is_name, is_byte, is_spellable, is_spellable_call, stands_in_word}
 use Rattle.script.specs.Words.{◌>>=◌, side_in, front_in, number_in, channel_in, name_in, bytes_in, count_in, is_same_side}
-use Rattle.script.specs.Steps.{step_word_in, offer_in, accept_in, write_in, read_in, deliver_in, step_by, step_in, later_words}
-use Rattle.script.proofs.Tests.{tested, not_true, bytes_eq-same, same_from_bytes_eq, and_true, chosen, not_both}
+use Rattle.script.specs.Steps.{step_word_in, offer_in, accept_in, write_in, read_in, deliver_in, step_by, step_in, later_words, built_words, begins_built}
+use Rattle.script.proofs.ByteTests.{tested, not_true, bytes_eq-same, same_from_bytes_eq, and_true, chosen, not_both}
 use Rattle.script.proofs.NumberLemmas.{number_in-decimal, number_in-some}
 use Rattle.script.proofs.HexWords.{bytes_in-written, bytes_in-some}
 
@@ -87,8 +87,41 @@ count_in-word n h = elim (tested (eqb n everything)) [
         rw (e, no_all n number) number
   ]
 
--- a step that is built
-pub step_in-words : (s : Step) → is_spellable s ≡ true → is_built_step s ≡ true → step_in (step_words s) ≡ Ok s
+-- a step whose step word is built
+abbrev pub has_word : Step → Bool
+has_word (step.Call side (call.Offer name window)) = true
+has_word (step.Call side (call.Accept key window)) = true
+has_word (step.Call side (call.Write key bytes)) = true
+has_word (step.Call side (call.Read key max)) = true
+has_word (step.Call side (call.Complete key)) = false
+has_word (step.Call side (call.Terminate key)) = false
+has_word (step.Deliver side count) = true
+has_word (step.End side) = false
+
+pub built_has_word : (s : Step) → is_built_step s ≡ true → has_word s ≡ true
+built_has_word (step.Call side (call.Offer name window)) h = refl
+built_has_word (step.Call side (call.Accept key window)) h = refl
+built_has_word (step.Call side (call.Write key bytes)) h = refl
+built_has_word (step.Call side (call.Read key max)) h = refl
+built_has_word (step.Call side (call.Complete key)) h = h
+built_has_word (step.Call side (call.Terminate key)) h = h
+built_has_word (step.Deliver side count) h = refl
+built_has_word (step.End side) h = h
+
+-- no step word that is built
+pub step_in-other : (s : Step) → has_word s ≡ false → step_in (step_words s) ≡ Err reason.NotBuilt
+unfolding step_in step_word_in
+step_in-other (step.Call side (call.Offer name window)) h = cc h
+step_in-other (step.Call side (call.Accept key window)) h = cc h
+step_in-other (step.Call side (call.Write key bytes)) h = cc h
+step_in-other (step.Call side (call.Read key max)) h = cc h
+step_in-other (step.Call side (call.Complete key)) h = refl
+step_in-other (step.Call side (call.Terminate key)) h = refl
+step_in-other (step.Deliver side count) h = cc h
+step_in-other (step.End side) h = refl
+
+-- a step word that is built
+pub step_in-words : (s : Step) → is_spellable s ≡ true → has_word s ≡ true → step_in (step_words s) ≡ Ok s
 unfolding step_in step_word_in offer_in accept_in write_in read_in deliver_in
 step_in-words (step.Call side (call.Offer name window)) h b =
     let p = and_parts (is_name name) (is_number window) h in
@@ -340,3 +373,59 @@ unfolding step_in
 step_in-ok [] s t h = cc h
 step_in-ok (first ∷ words) s t h =
     step_by-ok (step_word_in first) first words s (λ x e. step_word_in-some first x e) (and_parts (is_text_word first) (list_all is_text_word words) t).1 h
+
+-- ---- bad words
+
+bad_or_ok : (o : Option Step) → (ok_or o reason.BadWord ≡ Err reason.BadWord) ⊎ ((s : Step) × (ok_or o reason.BadWord ≡ Ok s))
+bad_or_ok (Some s) = inr (s, refl)
+bad_or_ok None = inl refl
+
+begins_by : (w text : List ℕ) (rest : List (List ℕ)) → w ≡ text → list_any (bytes_eq text) built_words ≡ true → begins_built (w ∷ rest) ≡ true
+begins_by w text rest e h = rw e h
+
+bad_begins : (k : Option StepWord) (first : List ℕ) (words : List (List ℕ)) → ((x : StepWord) → k ≡ Some x → IsKeyword x first) → step_by k words ≡ Err reason.BadWord → begins_built (first ∷ words) ≡ true
+bad_begins None first words is h = cc h
+bad_begins (Some word.Later) first words is h = cc h
+bad_begins (Some word.Offer) first words is h = begins_by first (codes "offer") words (is word.Offer refl) refl
+bad_begins (Some word.Accept) first words is h = begins_by first (codes "accept") words (is word.Accept refl) refl
+bad_begins (Some word.Write) first words is h = begins_by first (codes "write") words (is word.Write refl) refl
+bad_begins (Some word.Read) first words is h = begins_by first (codes "read") words (is word.Read refl) refl
+bad_begins (Some word.Deliver) first words is h = begins_by first (codes "deliver") words (is word.Deliver refl) refl
+
+-- a bad word comes behind a step word that is built
+pub bad_word-begins : (words : List (List ℕ)) → step_in words ≡ Err reason.BadWord → begins_built words ≡ true
+unfolding step_in
+bad_word-begins [] h = cc h
+bad_word-begins (first ∷ words) h = bad_begins (step_word_in first) first words (λ x e. step_word_in-some first x e) h
+
+or_true : (a b : Bool) → (a || b) ≡ true → (a ≡ true) ⊎ (b ≡ true)
+or_true true b h = inl refl
+or_true false b h = inr h
+
+abbrev BadOrStep : List (List ℕ) → Type 0
+BadOrStep words = (step_in words ≡ Err reason.BadWord) ⊎ ((s : Step) × (step_in words ≡ Ok s))
+
+by_word : (first text : List ℕ) (words : List (List ℕ)) → bytes_eq first text ≡ true → BadOrStep (text ∷ words) → BadOrStep (first ∷ words)
+by_word first text words e h = rw (same_from_bytes_eq first text e) h
+
+-- behind a step word that is built comes a step or a bad word
+pub bad_or_step : (words : List (List ℕ)) → begins_built words ≡ true → BadOrStep words
+unfolding step_in step_word_in
+bad_or_step [] h = cc h
+bad_or_step (first ∷ words) h =
+    elim (or_true (bytes_eq first (codes "offer")) _ h) [
+      | inl e ↦ by_word first (codes "offer") words e (bad_or_ok (offer_in words))
+      | inr h1 ↦ elim (or_true (bytes_eq first (codes "accept")) _ h1) [
+        | inl e ↦ by_word first (codes "accept") words e (bad_or_ok (accept_in words))
+        | inr h2 ↦ elim (or_true (bytes_eq first (codes "write")) _ h2) [
+          | inl e ↦ by_word first (codes "write") words e (bad_or_ok (write_in words))
+          | inr h3 ↦ elim (or_true (bytes_eq first (codes "read")) _ h3) [
+            | inl e ↦ by_word first (codes "read") words e (bad_or_ok (read_in words))
+            | inr h4 ↦ elim (or_true (bytes_eq first (codes "deliver")) _ h4) [
+              | inl e ↦ by_word first (codes "deliver") words e (bad_or_ok (deliver_in words))
+              | inr h5 ↦ cc h5
+            ]
+          ]
+        ]
+      ]
+    ]

@@ -77,9 +77,13 @@ ended text = text ++ 10 ∷ []
 abbrev pub head_text : List ℕ
 head_text = ended (codes "script 1") ++ ended (codes "version 3")
 
--- the text of a script: its head, and a line for each step
+-- a line for each step
+abbrev pub step_lines : List Step → List ℕ
+step_lines steps = flat_map (λ s. ended (step_text s)) steps
+
+-- the text of a script: its head and the lines of its steps
 abbrev pub script_text : List Step → List ℕ
-script_text steps = head_text ++ flat_map (λ s. ended (step_text s)) steps
+script_text steps = head_text ++ step_lines steps
 
 -- a number that a script can name
 abbrev pub is_number : ℕ → Bool
@@ -88,6 +92,13 @@ is_number n = nat_lt n (2 ^ 32)
 -- neither a space nor a line feed
 abbrev pub stands_in_word : ℕ → Bool
 stands_in_word b = not (b == 32 || b == 10)
+
+abbrev pub stands_in_line : ℕ → Bool
+stands_in_line b = not (b == 10)
+
+-- a text without a line feed
+abbrev pub is_line_text : List ℕ → Bool
+is_line_text text = is_utf8 text && list_all stands_in_line text
 
 -- a name that a script can name: a text that is one word or empty, and not the hyphen
 abbrev pub is_name : List ℕ → Bool

@@ -23,6 +23,15 @@ later_words = codes "complete" ∷ codes "terminate" ∷ codes "fill" ∷ codes 
     ∷ codes "result" ∷ codes "object" ∷ codes "sequence" ∷ codes "fault" ∷ codes "cancel" ∷ codes "report" ∷ codes "reports"
     ∷ codes "next" ∷ codes "abort" ∷ codes "invoke" ∷ codes "release" ∷ codes "outcome" ∷ codes "forget" ∷ codes "end" ∷ []
 
+-- those that one has
+abbrev pub built_words : List (List ℕ)
+built_words = codes "offer" ∷ codes "accept" ∷ codes "write" ∷ codes "read" ∷ codes "deliver" ∷ []
+
+-- the first word is a step word that is built
+abbrev pub begins_built : List (List ℕ) → Bool
+begins_built [] = false
+begins_built (first ∷ words) = list_any (bytes_eq first) built_words
+
 -- the step word that is written so
 unfoldable pub step_word_in : List ℕ → Option StepWord
 step_word_in text =

@@ -2,6 +2,7 @@
 #![tactic(auto)]
 
 mod fault;
+mod laws;
 mod lines;
 mod reading;
 mod reason;
@@ -10,5 +11,9 @@ mod steps;
 mod words;
 
 pub use fault::ScriptFault;
+pub use laws::{bad_words_are_of_no_step, scripts_are_their_texts};
 pub use reading::{Script, read_script};
 pub use reason::ScriptReason;
+
+#[cfg(test)]
+mod tests;

@@ -1,11 +1,12 @@
 //! Scripts from their bytes.
 
-ghost use Rattle.std.specs.Prelude.{◌≡◌, ◌<◌, ◌≤◌, [], length, IfOk, OnOk, replicate};
+ghost use Rattle.std.specs.Prelude.{◌≡◌, ◌<◌, List, [], length, IfOk, OnOk, replicate};
+ghost use Rattle.mux_run.specs.declared.steps.Step.{Step};
 ghost use Rattle.mux_run.specs.Built.{is_offer_step, is_built_step};
 ghost use Rattle.script.specs.Found.{script_in, steps_from, reads};
 ghost use Rattle.script.specs.Given.{Gives, Answers, line_seen, script_seen};
 ghost use Rattle.script.specs.Lines.{lines_of};
-ghost use Rattle.script.specs.Spelling.{most_steps};
+ghost use Rattle.script.specs.Spelling.{AreScripted, script_text, most_steps};
 ghost use Rattle.script.specs.Steps.{on_ok, text_in, admitted, step_after, format_in, version_in};
 
 use crate::fault::{LineFault, ScriptFault};
@@ -34,6 +35,23 @@ pub struct Script {
 
 /// The script that the bytes are, or the first line that breaks it, counted from 1, and why.
 pub fn read_script(alloc: Global, bytes: &[u8]) -> Result<Script, ScriptFault>
+    ensures exact { Answers script_seen result (script_in bytes.now) }
+
+    // What is read is written so.
+    ensures text { IfOk result (λ s. bytes.now ≡ script_text s.steps) }
+    ensures scripted { IfOk result (λ s. AreScripted s.steps) }
+    ensures version { IfOk result (λ s. s.version ≡ Version.Three) }
+    ensures nonces { IfOk result (λ s. s.nonces ≡ replicate 2 (replicate 16 0)) }
+
+    // What is written so is read, unless memory runs out.
+    ensures only { (steps : List Step) → AreScripted steps → bytes.now ≡ script_text steps
+        → Answers script_seen result (reads Version.Three steps) }
+{
+    read_lines(alloc, bytes)
+}
+
+/// The script or the first broken line.
+fn read_lines(alloc: Global, bytes: &[u8]) -> Result<Script, ScriptFault>
     ensures exact { Answers script_seen result (script_in bytes.now) }
     ensures nonces { IfOk result (λ s. s.nonces ≡ replicate 2 (replicate 16 0)) }
 {

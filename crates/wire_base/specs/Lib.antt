@@ -11,3 +11,4 @@ pub mod Memory
 pub mod Numbers
 pub mod Shortest
 pub mod Appends
+pub mod Standard
