@@ -5,3 +5,4 @@ pub mod Going
 pub mod Calls
 pub mod Feeding
 pub mod Answering
+pub mod Worlds

@@ -1,12 +1,17 @@
 -- When two ends stand for the two halves of a run.
-use Rattle.std.specs.Prelude.{◌≡◌, ◌≤◌, ℕ, ◌-◌, List, ◌++◌, length, take, drop, Bool, false, if◌then◌else◌}
+use Rattle.std.specs.Prelude.{◌≡◌, ◌≤◌, ℕ, ◌-◌, List, [], ◌∷◌, ◌++◌, length, take, drop, slice_index_or, Bool, true, false, if◌then◌else◌}
 use Rattle.wire_base.specs.declared.frame.Version.{Version}
+use Rattle.wire_base.specs.declared.frame.Version.TheVariants as version
 use Rattle.mux_items.specs.Bodies.{frame_texts, flip}
 use Rattle.mux_items.specs.Due.{got}
 use Rattle.mux_items.specs.Refusals.{is_ready}
 use Rattle.mux_end.specs.Stands.{EndValue, MuxStands}
 use Rattle.mux_run.specs.declared.steps.Step.{Step}
-use Rattle.mux_run.specs.Run.{Half, World, Terms, Ways, ways_a, ways_b, out, place_after, run}
+use Rattle.mux_run.specs.declared.steps.Side.{Side}
+use Rattle.mux_run.specs.declared.steps.Side.TheVariants.{A, B}
+use Rattle.mux_run.specs.Run.{Half, World, Terms, Ways, ways_a, ways_b, out, place_after, in_flight, run}
+use Rattle.mux_run.specs.Built.{AreBuilt}
+use Rattle.duo_world.specs.Sayable.{AreSayable}
 
 -- the place of the first byte from y that x hasn't applied
 abbrev pub place_of : Ways → Half → Half → ℕ
@@ -39,3 +44,33 @@ pub record DuoState : Type 0 where
 -- both ends stand for the run of the steps
 abbrev pub StandsForRun : DuoState → Type 0
 StandsForRun d = WorldStands d.terms d.a d.b (run d.terms d.steps)
+
+-- a Duo of version 3 that didn't fail: its steps are built, its ends stand for their run, and frames can say the items of both
+pub record IsHeld (d : DuoState) : Type 0 where
+  pub three : d.terms.version ≡ version.Three
+  pub built : AreBuilt d.steps
+  pub stands : StandsForRun d
+  pub sayable_a : AreSayable (run d.terms d.steps).a.items
+  pub sayable_b : AreSayable (run d.terms d.steps).b.items
+
+-- of a Duo whose memory ran out in a step nothing is promised
+abbrev pub DuoHolds : DuoState → Type 0
+DuoHolds d = d.failed ≡ false → IsHeld d
+
+abbrev pub end_of : Side → DuoState → EndValue
+end_of A d = d.a
+end_of B d = d.b
+
+-- the output of the end that a side hears
+abbrev pub output_to : Side → DuoState → List ℕ
+output_to A d = d.b.output
+output_to B d = d.a.output
+
+-- the bytes on their way to a side of a world
+abbrev pub flight_to : Side → Terms → World → List ℕ
+flight_to A terms w = in_flight (ways_a terms) w.a w.b
+flight_to B terms w = in_flight (ways_b terms) w.b w.a
+
+-- the nonces are those of A and of B
+abbrev pub terms_of : Version → (nonces : List (List ℕ)) → Terms
+terms_of v nonces = record { version = v; nonce_a = slice_index_or nonces 0 []; nonce_b = slice_index_or nonces 1 [] }

@@ -1,5 +1,6 @@
 -- What a call, a delivery and a step leave of two ends.
-use Rattle.std.specs.Prelude.{◌≡◌, ℕ, List, Bool, true, length, Result, Ok, Err}
+use Rattle.std.specs.Prelude.{◌≡◌, ℕ, ◌-◌, List, [], ◌∷◌, ◌++◌, length, drop, Bool, true, false, Result, Ok, Err}
+use Rattle.wire_base.specs.declared.frame.Version.{Version}
 use Rattle.wire_base.specs.declared.frame.Version.TheVariants as version
 use Rattle.wire_base.specs.declared.fault.CallFault.{CallFault}
 use Rattle.wire_base.specs.declared.fault.CallFault.TheVariants as fault
@@ -7,20 +8,23 @@ use Rattle.wire_base.specs.declared.out_of_memory.OutOfMemory.{OutOfMemory}
 use Rattle.mux_items.specs.Items.{Item}
 use Rattle.mux_run.specs.declared.steps.Call.{Call}
 use Rattle.mux_run.specs.declared.steps.Side.{Side}
+use Rattle.mux_run.specs.declared.steps.Side.TheVariants.{A, B}
 use Rattle.mux_run.specs.declared.steps.Step.{Step}
 use Rattle.mux_run.specs.declared.steps.Step.TheVariants as step
 use Rattle.mux_run.specs.declared.answers.DuoAnswer.{DuoAnswer}
+use Rattle.mux_run.specs.declared.answers.DuoAnswer.TheVariants as duo
 use Rattle.mux_run.specs.declared.answers.Reply.{Reply}
 use Rattle.mux_run.specs.declared.answers.Reply.TheVariants as reply
 use Rattle.mux_run.specs.declared.answers.EndEvent.{EndEvent}
-use Rattle.mux_run.specs.Answers.{reply_to, events_since, delivered_count, answer_at}
-use Rattle.mux_run.specs.Run.{Half, Ways, turned, called, delivered_to, half_after}
+use Rattle.mux_run.specs.Answers.{reply_to, events_since, delivered_count, answer_at, answer}
+use Rattle.mux_run.specs.Run.{Half, World, Terms, Ways, ways_a, ways_b, turned, out, called, delivered_to, half_after, side_of, happens, run}
 use Rattle.mux_run.specs.Plain.{IsPlainStep}
 use Rattle.mux_run.specs.Linked.{Joined}
+use Rattle.mux_run.specs.Safe.{IsSafeRun}
 use Rattle.mux_run.specs.Fed.{IsFed}
 use Rattle.mux_end.specs.Stands.{EndValue}
 use Rattle.duo_world.specs.Sayable.{AreSayable}
-use Rattle.duo_world.specs.Holding.{HalfStands}
+use Rattle.duo_world.specs.Holding.{HalfStands, DuoState, StandsForRun, terms_of}
 use Rattle.duo_world.specs.Settling.{half}
 
 -- an end of version 3 stands for the half x, whose items frames can say
@@ -64,3 +68,50 @@ CallAnswersAt w side c own x y a = (a ≡ answer_at w (step.Call side c) x y) ×
 -- a step at x answers as the run says, and leaves the two ends so
 abbrev pub StepAnswersAt : Ways → Step → EndValue → EndValue → Half → Half → DuoAnswer → Type 0
 StepAnswersAt w s own peer x y a = (a ≡ answer_at w s x y) × AreStanding w own peer (half_after w s x y) y
+
+-- the side at which the step is made is ready for it
+abbrev pub IsReadyAt : Terms → Side → Step → EndValue → EndValue → World → Type 0
+IsReadyAt terms A s a b w = IsReadyFor (ways_a terms) s a b w.a w.b
+IsReadyAt terms B s a b w = IsReadyFor (ways_b terms) s b a w.b w.a
+
+-- a step answers as the run says, and leaves the two ends so
+abbrev pub WorldAnswers : Terms → Step → EndValue → EndValue → World → DuoAnswer → Type 0
+WorldAnswers terms s a b w reply = (reply ≡ answer terms s w) × AreStanding (ways_a terms) a b (happens terms s w).a (happens terms s w).b
+
+-- the bytes that a side emitted as it went from x to x'
+abbrev pub newly_out : Ways → Half → Half → List ℕ
+newly_out w x x' = drop (length (out w.version w.own x.items)) (out w.version w.own x'.items)
+
+-- in a step at x its end emits, and from the other's output goes what was delivered
+pub record Emits (w : Ways) (x x' : Half) (own own' peer peer' : EndValue) : Type 0 where
+  pub own_output : own'.output ≡ own.output ++ newly_out w x x'
+  pub peer_output : peer'.output ≡ drop (x'.delivered - x.delivered) peer.output
+
+abbrev pub EmitsOn : Side → Terms → (w w' : World) → (a a' b b' : EndValue) → Type 0
+EmitsOn A terms w w' a a' b b' = Emits (ways_a terms) w.a w'.a a a' b b'
+EmitsOn B terms w w' a a' b b' = Emits (ways_b terms) w.b w'.b b b' a a'
+
+-- a step was made: it answers as the run says, is stored, and the ends stand for the run with it, which is safe
+pub record IsStepped (old new : DuoState) (s : Step) (reply : DuoAnswer) : Type 0 where
+  pub reply_is : reply ≡ answer old.terms s (run old.terms old.steps)
+  pub steps_are : new.steps ≡ old.steps ++ s ∷ []
+  pub terms_are : new.terms ≡ old.terms
+  pub works : new.failed ≡ false
+  pub stands : StandsForRun new
+  pub safe : IsSafeRun new.terms new.steps
+  pub emits : EmitsOn (side_of s) old.terms (run old.terms old.steps) (run new.terms new.steps) old.a new.a old.b new.b
+
+-- a step is made, or memory ran out, and then the Duo has failed
+abbrev pub Steps : DuoState → DuoState → Step → DuoAnswer → Type 0
+Steps old new s duo.OutOfMemory = new.failed ≡ true
+Steps old new s (duo.Replied reply events) = IsStepped old new s (duo.Replied reply events)
+Steps old new s (duo.Delivered count events) = IsStepped old new s (duo.Delivered count events)
+Steps old new s duo.Ended = IsStepped old new s duo.Ended
+
+-- a Duo ran these steps
+pub record HasRun (v : Version) (nonces : List (List ℕ)) (steps : List Step) (d : DuoState) : Type 0 where
+  pub terms_are : d.terms ≡ terms_of v nonces
+  pub steps_are : d.steps ≡ steps
+  pub works : d.failed ≡ false
+  pub stands : StandsForRun d
+  pub safe : IsSafeRun d.terms steps

@@ -1,19 +1,19 @@
 //! What a step does to the two ends.
 
 ghost use Rattle.duo_world.specs.Settling.{IsOnWay, IsSettled, half};
-ghost use Rattle.duo_world.specs.Stepping.{Answered, CallAnswersAt, Calls, Delivers, IsCallable, IsReadyFor, StepAnswersAt};
+ghost use Rattle.duo_world.specs.Stepping.{Answered, CallAnswersAt, Calls, Delivers, IsCallable, IsReadyAt, IsReadyFor, StepAnswersAt, WorldAnswers};
 ghost use Rattle.mux_end.specs.Stands.{EndValue};
 ghost use Rattle.mux_end.specs.Tests.{is_running_state};
 ghost use Rattle.mux_items.specs.Items.{Item, is_running};
 ghost use Rattle.mux_run.specs.Answers.{answer_at};
 ghost use Rattle.mux_run.specs.Built.{is_built_call, is_built_step, is_offer_call, is_offer_step};
-ghost use Rattle.mux_run.specs.Run.{Half, Ways, half_after, settled};
+ghost use Rattle.mux_run.specs.Run.{Half, Terms, Ways, World, settled, side_of};
 ghost use Rattle.mux_run.specs.declared.steps.Side.{Side};
 ghost use Rattle.mux_run.specs.declared.steps.Side.TheVariants.{A};
 ghost use Rattle.std.specs.Prelude.{◌≡◌, ℕ, List, [], OnOk, IfOk, None, true};
 
 use mux_end::{MuxEnd, MuxStep};
-use mux_run::{Call, DuoAnswer, EndEvent, EventList, Reply, Step};
+use mux_run::{Call, DuoAnswer, EndEvent, EventList, Reply, Side, Step};
 use std::alloc::Global;
 use wire_base::{Blob, CallFault, EndState, OutOfMemory};
 
@@ -130,7 +130,7 @@ fn answer_call(alloc: Global, own: &mut MuxEnd, call: &Call) -> Result<DuoAnswer
 }
 
 /// Makes a step at one side, whose end comes first.
-pub fn answer_step(alloc: Global, own: &mut MuxEnd, peer: &mut MuxEnd, step: &Step) -> Result<DuoAnswer, OutOfMemory>
+fn answer_step(alloc: Global, own: &mut MuxEnd, peer: &mut MuxEnd, step: &Step) -> Result<DuoAnswer, OutOfMemory>
     requires built { is_built_step step.now ≡ true }
     requires free { is_offer_step step.now ≡ true → own.old.channel ≡ None }
     ensures { (w : Ways) (x y : Half) → IsReadyFor w step.now own.old peer.old x y → IfOk result (StepAnswersAt w step.now own.new peer.new x y) }
@@ -143,5 +143,27 @@ pub fn answer_step(alloc: Global, own: &mut MuxEnd, peer: &mut MuxEnd, step: &St
             Ok(DuoAnswer::Delivered(count, events))
         }
         Step::End(_) => unreachable!(),
+    }
+}
+
+fn side_of(step: &Step) -> Side
+    ensures { result ≡ side_of step.now }
+{
+    match step {
+        Step::Call(side, _) | Step::Deliver(side, _) | Step::End(side) => *side,
+    }
+}
+
+/// Makes a step at its side.
+pub fn answer(alloc: Global, a: &mut MuxEnd, b: &mut MuxEnd, step: &Step) -> Result<DuoAnswer, OutOfMemory>
+    requires built { is_built_step step.now ≡ true }
+    requires free_a { is_offer_step step.now ≡ true → a.old.channel ≡ None }
+    requires free_b { is_offer_step step.now ≡ true → b.old.channel ≡ None }
+    ensures { (terms : Terms) (w : World) → IsReadyAt terms (side_of step.now) step.now a.old b.old w →
+        IfOk result (WorldAnswers terms step.now a.new b.new w) }
+{
+    match side_of(step) {
+        Side::A => answer_step(alloc, a, b, step),
+        Side::B => answer_step(alloc, b, a, step),
     }
 }

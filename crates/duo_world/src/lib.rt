@@ -1,6 +1,7 @@
 //! Two ends and the bytes between them.
 #![tactic(auto)]
 
+mod duo;
 mod ends;
 
-pub use ends::answer_step;
+pub use duo::Duo;

@@ -1,0 +1,11 @@
+use Rattle.std.proofs.Common.{◌≡◌, false}
+use Rattle.duo_world.specs.Holding.{StandsForRun, terms_of}
+use Rattle.duo_world.proofs.duo.Duo.run.Given as goal
+
+abbrev pub invariant-loop-step : goal.invariant-loop-step
+invariant-loop-step l = record {
+  steps : l.duo.steps ≡ l.yielded;
+  works : l.duo.failed ≡ false;
+  terms : l.duo.terms ≡ terms_of l.fn.version l.fn.nonces;
+  stands : StandsForRun l.duo;
+}

@@ -1,0 +1,123 @@
+//! Two joined ends, and the steps that were made with them.
+
+ghost use Rattle.duo_world.specs.Holding.{DuoHolds, end_of, flight_to, output_to};
+ghost use Rattle.duo_world.specs.Stepping.{HasRun, IsStepped, Steps};
+ghost use Rattle.mux_run.specs.Built.{AreBuilt};
+ghost use Rattle.mux_run.specs.Run.{run};
+ghost use Rattle.std.specs.Prelude.{◌≡◌, [], ◌∷◌, ◌++◌, IfOk, OnErr, false, true};
+
+use crate::ends::answer;
+use mux_end::MuxEnd;
+use mux_run::{DuoAnswer, Side, Step, StepList};
+use std::alloc::Global;
+use std::marker::Model;
+use wire_base::{OutOfMemory, Version};
+
+/// Two ends that are joined by two byte streams.
+#[derive(Drop)]
+pub struct Duo {
+    alloc: Global,
+    version: Version,
+    nonce_a: [u8; 16],
+    nonce_b: [u8; 16],
+    a: MuxEnd,
+    b: MuxEnd,
+    steps: StepList,
+    failed: bool,
+}
+
+impl Model for Duo {
+    ghost use Rattle.duo_world.specs.Holding.{DuoHolds, DuoState};
+
+    ghost Value = { DuoState };
+
+    ghost view = { λ d. record { terms = record { version = d.version; nonce_a = d.nonce_a; nonce_b = d.nonce_b }; a = d.a; b = d.b; steps = d.steps; failed = d.failed } };
+
+    ghost invariant = { λ d. DuoHolds (record { terms = record { version = d.version; nonce_a = d.nonce_a; nonce_b = d.nonce_b }; a = d.a; b = d.b; steps = d.steps; failed = d.failed }) };
+}
+
+impl Duo {
+    /// Two ends with their first bytes in flight. The nonces are those of A and of B.
+    pub fn start(alloc: Global, version: Version, nonces: [[u8; 16]; 2]) -> Result<Duo, OutOfMemory>
+        requires { version ≡ Version.Three }
+        ensures { IfOk result (HasRun version nonces []) }
+    {
+        let [nonce_a, nonce_b] = nonces;
+        let a = MuxEnd::start(alloc, version, nonce_a)?;
+        let b = MuxEnd::start(alloc, version, nonce_b)?;
+        Ok(Duo {
+            alloc,
+            version,
+            nonce_a,
+            nonce_b,
+            a,
+            b,
+            steps: StepList::new(alloc),
+            failed: false,
+        })
+    }
+
+    fn try_step(&mut self, step: Step) -> Result<DuoAnswer, OutOfMemory>
+        requires works { self.old.failed ≡ false }
+        requires built { AreBuilt (self.old.steps ++ step ∷ []) }
+        ensures ok { IfOk result (IsStepped self.old self.new step) }
+        ensures err { OnErr result (self.new.failed ≡ true) }
+    {
+        self.failed = true;
+        let reply = answer(self.alloc, &mut self.a, &mut self.b, &step)?;
+        self.steps.push(step)?;
+        self.failed = false;
+        Ok(reply)
+    }
+
+    /// Makes a step: a call, or a delivery of at most so many of the bytes in flight to a side. After it that side
+    /// applies what is whole.
+    pub fn step(&mut self, step: Step) -> DuoAnswer
+        requires { AreBuilt (self.old.steps ++ step ∷ []) }
+        ensures made { self.old.failed ≡ false → Steps self.old self.new step result }
+        ensures failed { self.old.failed ≡ true → (result ≡ DuoAnswer.OutOfMemory) × (self.new ≡ self.old) }
+    {
+        if self.failed {
+            return DuoAnswer::OutOfMemory;
+        }
+        match self.try_step(step) {
+            Ok(reply) => reply,
+            Err(_) => DuoAnswer::OutOfMemory,
+        }
+    }
+
+    /// Makes all steps, in their order.
+    pub fn run(alloc: Global, version: Version, nonces: [[u8; 16]; 2], steps: StepList) -> Result<Duo, OutOfMemory>
+        requires three { version ≡ Version.Three }
+        requires built { AreBuilt steps }
+        ensures { IfOk result (HasRun version nonces steps) }
+    {
+        let mut duo = Duo::start(alloc, version, nonces)?;
+        for step in steps.into_vec() {
+            duo.try_step(step)?;
+        }
+        Ok(duo)
+    }
+
+    /// The bytes that the other side emitted and that weren't delivered to this side, in their order.
+    pub fn in_flight(&self, side: Side) -> &[u8]
+        ensures output { result.now ≡ output_to side self.now }
+        ensures flight { self.now.failed ≡ false → result.now ≡ flight_to side self.now.terms (run self.now.terms self.now.steps) }
+    {
+        match side {
+            Side::A => self.b.pending_output(),
+            Side::B => self.a.pending_output(),
+        }
+    }
+
+    /// The end of a side.
+    pub fn end(&self, side: Side) -> &MuxEnd
+        ensures end { result.now ≡ end_of side self.now }
+        ensures holds { DuoHolds self.now }
+    {
+        match side {
+            Side::A => &self.a,
+            Side::B => &self.b,
+        }
+    }
+}
