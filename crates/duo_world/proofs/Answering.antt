@@ -1,30 +1,26 @@
 -- What a step answers.
-use Rattle.std.specs.Prelude.{if◌then◌else◌, Bool, true, false, not, ◌&&◌, nat_le, is_none}
-use Rattle.std.proofs.Common.{◌≡◌, ℕ, ◌+◌, ◌-◌, ◌<◌, ◌≤◌, List, [], ◌∷◌, ◌++◌, length, refl, sym, ◌∙◌, ap, ap₂, subst, arith, length-append, Option, Some, None, Result, Ok, Err, IfOk}
+use Rattle.std.specs.Prelude.{true, false, is_none}
+use Rattle.std.proofs.Common.{◌≡◌, ℕ, ◌≤◌, List, [], ◌∷◌, ◌++◌, length, refl, sym, ◌∙◌, ap, ap₂, subst, arith, length-append, Some, None, Result, Ok, Err, IfOk}
 use Rattle.std.proofs.lemmas.List.{append-nil}
 use Rattle.wire_base.specs.declared.frame.Version.{Version}
 use Rattle.wire_base.specs.declared.frame.Version.TheVariants as version
-use Rattle.wire_base.specs.declared.state.Cause.{Cause}
-use Rattle.wire_base.specs.declared.refusal.Refusal.{Refusal}
 use Rattle.wire_base.specs.declared.out_of_memory.OutOfMemory.{OutOfMemory}
 use Rattle.mux_items.specs.Items.{Item, is_running, ended}
 use Rattle.mux_items.specs.Due.{sent, got}
 use Rattle.mux_run.specs.declared.steps.Side.{Side}
 use Rattle.mux_run.specs.declared.steps.Call.{Call}
 use Rattle.mux_run.specs.declared.steps.Call.TheVariants as call
-use Rattle.mux_run.specs.declared.steps.Step.{Step}
 use Rattle.mux_run.specs.declared.steps.Step.TheVariants as step
 use Rattle.mux_run.specs.declared.answers.Reply.{Reply}
 use Rattle.mux_run.specs.declared.answers.EndEvent.{EndEvent}
 use Rattle.mux_run.specs.declared.answers.DuoAnswer.{DuoAnswer}
 use Rattle.mux_run.specs.declared.answers.DuoAnswer.TheVariants as duo
-use Rattle.mux_run.specs.Run.{Half, Ways, turned, whole_frames, settled, call_refusal, item_of_call, unless_refused, called, half_after}
+use Rattle.mux_run.specs.Run.{Half, Ways, whole_frames, settled, call_refusal, item_of_call, unless_refused, called, half_after}
 use Rattle.mux_run.specs.Answers.{reply_to, events_since, event_list, answer_at}
-use Rattle.mux_run.proofs.Growing.{Grown, called_grown}
+use Rattle.mux_run.proofs.Growing.{called_grown}
 use Rattle.mux_end.specs.Stands.{EndValue}
 use Rattle.mux_end.specs.Tests.{is_running_state}
-use Rattle.duo_world.specs.Holding.{HalfStands}
-use Rattle.duo_world.specs.Settling.{half, IsSettling, IsOnWay, IsSettled}
+use Rattle.duo_world.specs.Settling.{half, IsOnWay, IsSettled}
 use Rattle.duo_world.specs.Stepping.{IsCallable, IsReadyFor, AreStanding, Calls, Delivers, CallAnswersAt, StepAnswersAt}
 use Rattle.duo_world.proofs.Settling.{settled_stopped}
 use Rattle.duo_world.proofs.Going.{events_more, events_none}
@@ -97,9 +93,10 @@ called_stopped w c side own new peer reply events x y r stopped none h =
     let v = w.version in
     let items = called v c x.items in
     let idle : is_running items ≡ false = called_runs v c x.items ∙ (sym (runs_as w own x y r.own_stands.stands) ∙ stopped) in
-    let same : (settled w x.delivered items y).items ≡ items = settled_stopped w x.delivered items y h.1.three idle in
-    (ap₂ (λ r es. duo.Replied r es) h.0 (none ∙ sym (ap (events_since v (length x.items)) same ∙ called_events v c x.items)),
-    subst (λ now. IsCallable w new (half now x.delivered) y) (sym same) h.1)
+    let same : (settled w x.delivered items y).items ≡ items = settled_stopped w x.delivered items y h.1.three idle in (
+      ap₂ (λ r es. duo.Replied r es) h.0 (none ∙ sym (ap (events_since v (length x.items)) same ∙ called_events v c x.items)),
+      subst (λ now. IsCallable w new (half now x.delivered) y) (sym same) h.1,
+    )
 
 -- the two ends after a call at x
 pub called_both : (w : Ways) (c : Call) (side : Side) (own new peer : EndValue) (x y : Half) → IsReadyFor w (step.Call side c) own peer x y → IsCallable w new (half_after w (step.Call side c) x y) y

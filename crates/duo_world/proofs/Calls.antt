@@ -1,11 +1,9 @@
 -- A call of an end.
-use Rattle.std.specs.Prelude.{if◌then◌else◌, nat_lt, nat_le, not, ◌&&◌, ◌||◌, min, Bool, true, false, IsUtf8}
-use Rattle.std.specs.Str.{is_utf8}
-use Rattle.std.proofs.Common.{◌≡◌, ℕ, ◌+◌, ◌-◌, ◌*◌, ◌^◌, ◌<◌, ◌≤◌, List, [], ◌∷◌, ◌++◌, length, take, drop, refl, sym, ◌∙◌, ap, subst, inl, inr, arith, Option, Some, None, Result, Ok, Err, IfOk}
-use Rattle.std.proofs.lemmas.Bool.{cases_Bool, and_parts, not-false, ltb-false, leb-false}
+use Rattle.std.specs.Prelude.{if◌then◌else◌, nat_lt, nat_le, not, Bool, true, false, IsUtf8}
+use Rattle.std.proofs.Common.{◌≡◌, ℕ, ◌+◌, ◌^◌, ◌<◌, ◌≤◌, List, ◌∷◌, ◌++◌, length, refl, sym, ◌∙◌, ap, subst, arith, Option, Some, None, Result, Ok, Err, IfOk}
+use Rattle.std.proofs.lemmas.Bool.{and_parts, ltb-false, leb-false}
 use Rattle.std.proofs.lemmas.Str.{is_utf8-from_IsUtf8}
 use Rattle.wire_base.specs.declared.frame.Version.{Version}
-use Rattle.wire_base.specs.declared.frame.Version.TheVariants as version
 use Rattle.wire_base.specs.declared.refusal.Refusal.{Refusal}
 use Rattle.wire_base.specs.declared.refusal.Refusal.TheVariants as refusal
 use Rattle.wire_base.specs.declared.state.Cause.{Cause}
@@ -18,9 +16,8 @@ use Rattle.mux_items.specs.declared.party.Party.TheVariants.{Odd, Even, Neither}
 use Rattle.mux_items.specs.Bodies.{frame_texts}
 use Rattle.mux_items.specs.Items.{Item, DidOffer, DidAccept, DidWrite, DidRead, ended, party_of}
 use Rattle.mux_items.specs.Kept.{is_known, is_kept, own_id, own_offers, next_key, most_channels, kept_keys, own_windows}
-use Rattle.mux_items.specs.Lists.{unread, has_completed, termination_emitted, is_accepted, written}
 use Rattle.mux_items.specs.Due.{due, got}
-use Rattle.mux_items.specs.Refusals.{is_ready, unless_ended, is_bad_window, most_windows, most_bytes, or_else, is_unaccepted, open_refusal, writing_refusal, offer_refusal, accept_refusal, write_refusal, read_refusal}
+use Rattle.mux_items.specs.Refusals.{is_ready, unless_ended, is_bad_window, most_windows, or_else, open_refusal, writing_refusal, offer_refusal, accept_refusal, write_refusal, read_refusal}
 use Rattle.mux_items.proofs.Permits.{if_none}
 use Rattle.mux_run.specs.declared.steps.Call.{Call}
 use Rattle.mux_run.specs.declared.steps.Call.TheVariants as call
@@ -28,10 +25,10 @@ use Rattle.mux_run.specs.declared.answers.Reply.{Reply}
 use Rattle.mux_run.specs.declared.answers.Reply.TheVariants as reply
 use Rattle.mux_run.specs.Run.{Half, Ways, call_refusal, item_of_call, unless_refused, called}
 use Rattle.mux_run.specs.Answers.{success, refused_or, reply_to}
-use Rattle.mux_end.specs.Stands.{EndValue, MuxStands}
+use Rattle.mux_end.specs.Stands.{EndValue}
 use Rattle.mux_end.specs.Replies.{Adds, CallAnswers}
 use Rattle.duo_world.specs.Sayable.{IsSayableKey, IsSayable, AreSayable}
-use Rattle.duo_world.specs.Holding.{place_of, rest_of, HalfStands}
+use Rattle.duo_world.specs.Holding.{place_of, rest_of}
 use Rattle.duo_world.specs.Settling.{half}
 use Rattle.duo_world.specs.Stepping.{IsCallable, Calls, Answered}
 use Rattle.duo_world.proofs.Sayings.{known_sayable}
@@ -134,12 +131,15 @@ call_accepted w c old new x y r IsAnswer z h is says a =
     let item = item_of_call c x.items in
     let p = accepted old new x.items (place_of w x y) (rest_of w x y) r item IsAnswer z a in
     let ok : call_refusal v c x.items ≡ None = is ∙ p.0 in
-    let now : called v c x.items ≡ item ∷ x.items = ap (λ r. unless_refused r item x.items) ok in
-    (p.2, ap (λ r. refused_or r (success v c x.items)) ok, subst (λ items. IsCallable w new (half items x.delivered) y) (sym now) (record {
-      three = h.three;
-      stands = half_item w old new item x.items x.delivered y h.three (got_call c x.items) h.stands p.1.stands (p.1.output ∙ ap (λ v. old.output ++ frame_texts v (due v item x.items)) h.stands.version) p.1.version p.1.nonce;
-      sayable = (says p.0, h.sayable);
-    }))
+    let now : called v c x.items ≡ item ∷ x.items = ap (λ r. unless_refused r item x.items) ok in (
+      p.2,
+      ap (λ r. refused_or r (success v c x.items)) ok,
+      subst (λ items. IsCallable w new (half items x.delivered) y) (sym now) (record {
+        three = h.three;
+        stands = half_item w old new item x.items x.delivered y h.three (got_call c x.items) h.stands p.1.stands (p.1.output ∙ ap (λ v. old.output ++ frame_texts v (due v item x.items)) h.stands.version) p.1.version p.1.nonce;
+        sayable = (says p.0, h.sayable);
+      }),
+    )
 
 pub call_refused : {A : Type 0} (w : Ways) (c : Call) (old new : EndValue) (x y : Half) (r : Option Refusal) (IsAnswer : A → Type 0) (r' : Refusal) → IsCallable w old x y
     → call_refusal w.version c x.items ≡ r

@@ -1,8 +1,7 @@
 -- What a delivery, and what a call, leave of an end and of the other.
-use Rattle.std.specs.Prelude.{if◌then◌else◌, nat_lt, not, ◌&&◌, ◌||◌, min, Bool, true, false, is_none}
-use Rattle.std.proofs.Common.{◌≡◌, ℕ, ◌+◌, ◌-◌, ◌<◌, ◌≤◌, List, [], ◌∷◌, ◌++◌, length, take, drop, map, refl, sym, ◌∙◌, ap, subst, inl, inr, arith, length-append, length-drop, length-take, Option, Some, None, Result, Ok, Err, IfOk}
-use Rattle.std.proofs.lemmas.Bool.{cases_Bool}
-use Rattle.std.proofs.lemmas.List.{append-nil, take-append-le, take-append-drop, drop-append-le, drop-drop, append_cancel_left, length-map}
+use Rattle.std.specs.Prelude.{if◌then◌else◌, nat_lt, not, min, Bool, true, false, is_none}
+use Rattle.std.proofs.Common.{◌≡◌, ℕ, ◌+◌, ◌-◌, ◌≤◌, List, [], ◌∷◌, ◌++◌, length, take, drop, map, refl, sym, ◌∙◌, ap, subst, arith, length-append, length-drop, length-take, Option, Some, None, Ok}
+use Rattle.std.proofs.lemmas.List.{take-append-le, take-append-drop, drop-append-le, drop-drop, append_cancel_left, length-map}
 use Rattle.std.proofs.Math.Seq.{take-add}
 use Rattle.wire_base.specs.declared.frame.Version.{Version}
 use Rattle.wire_base.specs.declared.frame.Version.TheVariants as version
@@ -10,36 +9,30 @@ use Rattle.wire_base.specs.declared.state.Cause.{Cause}
 use Rattle.wire_base.specs.declared.state.Cause.TheVariants as cause
 use Rattle.wire_base.specs.declared.state.EndState.{EndState}
 use Rattle.wire_base.specs.declared.state.EndState.TheVariants as state
-use Rattle.wire_base.specs.declared.out_of_memory.OutOfMemory.{OutOfMemory}
-use Rattle.wire_base.specs.declared.refusal.Refusal.{Refusal}
-use Rattle.mux_items.specs.Bodies.{ChannelFrame, flip, frame_text, frame_texts}
+use Rattle.mux_items.specs.Bodies.{ChannelFrame, flip, frame_texts}
 use Rattle.mux_items.specs.Items.{Item, End, is_running, ended}
 use Rattle.mux_items.specs.Due.{due, sent, got}
 use Rattle.mux_items.specs.Refusals.{most_bytes}
 use Rattle.mux_run.specs.declared.steps.Side.{Side}
-use Rattle.mux_run.specs.declared.steps.Call.{Call}
-use Rattle.mux_run.specs.declared.steps.Call.TheVariants as call
 use Rattle.mux_run.specs.declared.steps.Step.{Step}
 use Rattle.mux_run.specs.declared.steps.Step.TheVariants as step
 use Rattle.mux_run.specs.declared.answers.EndEvent.{EndEvent}
 use Rattle.mux_run.specs.declared.answers.EndEvent.TheVariants as event
-use Rattle.mux_run.specs.Run.{Half, Ways, turned, out, whole_frames, greeting_size, settled, call_refusal, item_of_call, unless_refused, called, in_flight, added, is_spent, delivered_to, half_after}
-use Rattle.mux_run.specs.Answers.{events_since, event_list, delivered_count}
-use Rattle.mux_run.specs.Linked.{Linked, Joined}
-use Rattle.mux_run.specs.Fed.{IsFed, LieWithin}
-use Rattle.mux_run.specs.Plain.{IsPlainWay}
+use Rattle.mux_run.specs.Run.{Half, Ways, turned, out, whole_frames, greeting_size, settled, in_flight, added, is_spent, delivered_to, half_after}
+use Rattle.mux_run.specs.Answers.{events_since, delivered_count}
+use Rattle.mux_run.specs.Linked.{Joined}
+use Rattle.mux_run.specs.Fed.{IsFed}
 use Rattle.mux_run.proofs.WholeFrames.{frame_texts-append, whole_fits, take_whole, whole_more}
-use Rattle.mux_run.proofs.Growing.{Grown, sent_grows, out-more, half_after_grown, called_grown}
-use Rattle.mux_end.specs.Stands.{EndValue, MuxStands, state_by, state_of}
+use Rattle.mux_run.proofs.Growing.{sent_grows, out-more, half_after_grown}
+use Rattle.mux_end.specs.Stands.{EndValue, MuxStands, state_by}
 use Rattle.mux_end.specs.Ends.{with_output}
 use Rattle.mux_end.specs.Tests.{is_running_state}
 use Rattle.mux_end.specs.Replies.{Adds, KeepsPiece, FeedAnswers}
 use Rattle.mux_end.specs.Replies as replies
-use Rattle.duo_world.specs.Sayable.{AreSayable}
 use Rattle.duo_world.specs.Holding.{place_of, rest_of, HalfStands}
-use Rattle.duo_world.specs.Settling.{half, IsSettling, IsOnWay, IsSettled}
-use Rattle.duo_world.specs.Stepping.{IsCallable, IsReadyFor, AreStanding, Delivers}
-use Rattle.duo_world.proofs.Settling.{no_greeting, place_settling, place_is, half_item, settled_stopped}
+use Rattle.duo_world.specs.Settling.{half, IsOnWay, IsSettled}
+use Rattle.duo_world.specs.Stepping.{IsReadyFor, AreStanding, Delivers}
+use Rattle.duo_world.proofs.Settling.{no_greeting, place_is, half_item}
 use Rattle.duo_world.proofs.Going.{events_more, events_none, running_none}
 
 -- whether an end runs
@@ -91,7 +84,7 @@ peer_grows w end y x items more e h grown applied bound =
     let front : take k (sent v items) ≡ take k (sent v x.items) = ap (take k) grown ∙ take-append-le k (sent v x.items) more applied in
     let place : place_of w y x' ≡ place_of w y x = place_is w y x' e ∙ (ap (λ fs. length (frame_texts v fs)) front ∙ sym (place_is w y x e)) in
     let bytes : take y.delivered (out v w.peer items) ≡ take y.delivered (out v w.peer x.items) =
-        ap (take y.delivered) (out-more v w.peer x.items items more grown) ∙ take-append-le y.delivered (out v w.peer x.items) (frame_texts v more) bound in
+    ap (take y.delivered) (out-more v w.peer x.items items more grown) ∙ take-append-le y.delivered (out v w.peer x.items) (frame_texts v more) bound in
     let rest : rest_of w y x' ≡ rest_of w y x = ap (λ n. drop n (take y.delivered (out v w.peer items))) place ∙ ap (drop (place_of w y x)) bytes in
     record {
       stands = subst (λ at. MuxStands end y.items at (rest_of w y x')) (sym place) (subst (MuxStands end y.items (place_of w y x)) (sym rest) h.stands);
@@ -209,10 +202,11 @@ pub delivers_nothing : (w : Ways) (n : ℕ) (side : Side) (own peer : EndValue) 
     → Delivers w n own peer events x y 0
 delivers_nothing w n side own peer events x y r stopped none =
     let e = sym (runs_as w own x y r.own_stands.stands) ∙ stopped in
-    let same = delivered_stopped w n x y e in
-    (sym (count_stopped w n x y e),
-    none ∙ sym (ap (λ x'. events_since w.version (length x.items) x'.items) same ∙ events_none w.version (length x.items) x.items (omega arith)),
-    subst (λ x'. AreStanding w own peer x' y) (sym same) (record { own_stands = r.own_stands; peer_stands = r.peer_stands }))
+    let same = delivered_stopped w n x y e in (
+      sym (count_stopped w n x y e),
+      none ∙ sym (ap (λ x'. events_since w.version (length x.items) x'.items) same ∙ events_none w.version (length x.items) x.items (omega arith)),
+      subst (λ x'. AreStanding w own peer x' y) (sym same) (record { own_stands = r.own_stands; peer_stands = r.peer_stands }),
+    )
 
 -- an end that keeps what was delivered goes on with it
 pub delivers_on : (w : Ways) (n m : ℕ) (side : Side) (own fed peer : EndValue) (events : List EndEvent) (piece : List ℕ) (s : EndState) (x y : Half) → IsReadyFor w (step.Deliver side n) own peer x y → is_running_state own.state ≡ true → events ≡ []
@@ -228,20 +222,24 @@ delivers_on w n m side own fed peer events piece s x y r running none count is a
     let flight = in_flight_is w peer x y r.peer_stands.stands in
     let size : m ≡ added w n x y = count ∙ ap (λ bs. min n (length bs)) flight in
     let long : length piece ≡ added w n x y = omega (arith, ap length is, length-take m peer.output, count, size) in
-    let k = kept_by own fed x.items at rest piece s (replies.is_spent at rest piece) goes (feeding own fed x.items at rest piece s runs answers) in
-    (record {
-      settling = record {
-        three = three;
-        way = r.plain.way;
-        within = within_more w.version x.delivered m (length (got x.items)) (sent w.version y.items) (lies_within w x y three r.fed);
-        sayable = r.own_stands.sayable;
-        sayable_peer = r.peer_stands.sayable;
-      };
-      stands = half_fed w m own fed x y piece three r.fed bound r.own_stands.stands (is ∙ ap (take m) flight) k.1;
-      runs = runs;
-      newer = omega arith;
-      events_are = none ∙ sym (events_none w.version (length x.items) x.items (omega arith));
-    }, size, runs, sym (spent_same w n x y piece three r.fed bound long) ∙ k.0)
+    let k = kept_by own fed x.items at rest piece s (replies.is_spent at rest piece) goes (feeding own fed x.items at rest piece s runs answers) in (
+      record {
+        settling = record {
+          three = three;
+          way = r.plain.way;
+          within = within_more w.version x.delivered m (length (got x.items)) (sent w.version y.items) (lies_within w x y three r.fed);
+          sayable = r.own_stands.sayable;
+          sayable_peer = r.peer_stands.sayable;
+        };
+        stands = half_fed w m own fed x y piece three r.fed bound r.own_stands.stands (is ∙ ap (take m) flight) k.1;
+        runs = runs;
+        newer = omega arith;
+        events_are = none ∙ sym (events_none w.version (length x.items) x.items (omega arith));
+      },
+      size,
+      runs,
+      sym (spent_same w n x y piece three r.fed bound long) ∙ k.0,
+    )
 
 pub delivers_kept : (w : Ways) (n m : ℕ) (side : Side) (own new peer peer' : EndValue) (events : List EndEvent) (x y : Half) → IsReadyFor w (step.Deliver side n) own peer x y
     → (m ≡ added w n x y) × (is_running x.items ≡ true) × (is_spent w n x y ≡ false) → m ≤ length peer.output → peer' ≡ with_output (drop m peer.output) peer
@@ -250,14 +248,15 @@ delivers_kept w n m side own new peer peer' events x y r facts small took done =
     let v = w.version in
     let same : settled w (x.delivered + m) x.items y ≡ delivered_to w n x y = ap (λ k. settled w (x.delivered + k) x.items y) facts.0 ∙ sym (delivered_kept w n x y facts.1 facts.2) in
     let stays : HalfStands (turned w) peer y (half (settled w (x.delivered + m) x.items y).items x.delivered) =
-        subst (λ x'. HalfStands (turned w) peer y (half x'.items x.delivered)) (sym same) (peer_stays w (step.Deliver side n) peer x y r.own_stands.three r.joined r.peer_stands.stands) in
-    let taken : HalfStands (turned w) (with_output (drop m peer.output) peer) y (settled w (x.delivered + m) x.items y) = peer_took w m peer (settled w (x.delivered + m) x.items y).items x.delivered y stays small in
-    (facts.0 ∙ sym (count_kept w n x y facts.1 facts.2),
-    done.events_are ∙ ap (λ x'. events_since v (length x.items) x'.items) same,
-    subst (λ x'. AreStanding w new peer' x' y) same (record {
-      own_stands = record { three = r.own_stands.three; stands = done.stands; sayable = done.sayable };
-      peer_stands = record { three = r.own_stands.three; stands = subst (λ end. HalfStands (turned w) end y (settled w (x.delivered + m) x.items y)) (sym took) taken; sayable = r.peer_stands.sayable };
-    }))
+    subst (λ x'. HalfStands (turned w) peer y (half x'.items x.delivered)) (sym same) (peer_stays w (step.Deliver side n) peer x y r.own_stands.three r.joined r.peer_stands.stands) in
+    let taken : HalfStands (turned w) (with_output (drop m peer.output) peer) y (settled w (x.delivered + m) x.items y) = peer_took w m peer (settled w (x.delivered + m) x.items y).items x.delivered y stays small in (
+      facts.0 ∙ sym (count_kept w n x y facts.1 facts.2),
+      done.events_are ∙ ap (λ x'. events_since v (length x.items) x'.items) same,
+      subst (λ x'. AreStanding w new peer' x' y) same (record {
+        own_stands = record { three = r.own_stands.three; stands = done.stands; sayable = done.sayable };
+        peer_stands = record { three = r.own_stands.three; stands = subst (λ end. HalfStands (turned w) end y (settled w (x.delivered + m) x.items y)) (sym took) taken; sayable = r.peer_stands.sayable };
+      }),
+    )
 
 -- an end that would be fed more than may be
 pub delivers_spent : (w : Ways) (n m : ℕ) (side : Side) (own new peer : EndValue) (events events' : List EndEvent) (piece : List ℕ) (s : EndState) (c : Cause) (x y : Half) → IsReadyFor w (step.Deliver side n) own peer x y → is_running_state own.state ≡ true → events ≡ []
@@ -279,15 +278,16 @@ delivers_spent w n m side own new peer events events' piece s c x y r running no
     let item = End cause.Spent in
     let same = delivered_spent w n x y runs is_so in
     let stays : HalfStands (turned w) peer y (half (item ∷ x.items) x.delivered) =
-        subst (λ x'. HalfStands (turned w) peer y (half x'.items x.delivered)) same (peer_stays w (step.Deliver side n) peer x y three r.joined r.peer_stands.stands) in
-    (sym (count_spent w n x y runs is_so),
-    pushed ∙ (ap (λ es. es ++ event.Ended c ∷ []) none ∙ (ap (λ c. event.Ended c ∷ []) k.1
-      ∙ sym (ap (λ x'. events_since v (length x.items) x'.items) same ∙ (events_more v (length x.items) item x.items (omega arith) ∙ ap (λ es. es ++ event.Ended cause.Spent ∷ []) (events_none v (length x.items) x.items (omega arith)))))),
-    subst (λ x'. AreStanding w new peer x' y) (sym same) (record {
-      own_stands = record {
-        three = three;
-        stands = half_item w own new item x.items x.delivered y three refl r.own_stands.stands k.2.stands (k.2.output ∙ ap (λ v. own.output ++ frame_texts v (due v item x.items)) r.own_stands.stands.version) k.2.version k.2.nonce;
-        sayable = (tt, r.own_stands.sayable);
-      };
-      peer_stands = record { three = three; stands = stays; sayable = r.peer_stands.sayable };
-    }))
+    subst (λ x'. HalfStands (turned w) peer y (half x'.items x.delivered)) same (peer_stays w (step.Deliver side n) peer x y three r.joined r.peer_stands.stands) in (
+      sym (count_spent w n x y runs is_so),
+      pushed ∙ (ap (λ es. es ++ event.Ended c ∷ []) none ∙ (ap (λ c. event.Ended c ∷ []) k.1
+          ∙ sym (ap (λ x'. events_since v (length x.items) x'.items) same ∙ (events_more v (length x.items) item x.items (omega arith) ∙ ap (λ es. es ++ event.Ended cause.Spent ∷ []) (events_none v (length x.items) x.items (omega arith)))))),
+      subst (λ x'. AreStanding w new peer x' y) (sym same) (record {
+        own_stands = record {
+          three = three;
+          stands = half_item w own new item x.items x.delivered y three refl r.own_stands.stands k.2.stands (k.2.output ∙ ap (λ v. own.output ++ frame_texts v (due v item x.items)) r.own_stands.stands.version) k.2.version k.2.nonce;
+          sayable = (tt, r.own_stands.sayable);
+        };
+        peer_stands = record { three = three; stands = stays; sayable = r.peer_stands.sayable };
+      }),
+    )

@@ -1,18 +1,17 @@
 -- What stands at the front of the bytes that an end didn't apply yet.
-use Rattle.std.specs.Prelude.{Bool, true, false}
-use Rattle.std.proofs.Common.{◌≡◌, ℕ, ◌<◌, ◌≤◌, List, [], ◌∷◌, ◌++◌, length, refl, sym, ◌∙◌, ap, subst, arith, length-append, append_assoc}
+use Rattle.std.specs.Prelude.{true}
+use Rattle.std.proofs.Common.{◌≡◌, ℕ, List, [], ◌∷◌, ◌++◌, length, refl, sym, ◌∙◌, ap, arith, length-append, append_assoc}
 use Rattle.wire_base.specs.declared.frame.Version.{Version}
 use Rattle.wire_base.specs.declared.frame.Version.TheVariants as version
-use Rattle.wire_base.specs.declared.frame.Frame.{Frame}
 use Rattle.frame_text.specs.Codec.{is_packed}
-use Rattle.frame_text.specs.Frames.{fits, text}
-use Rattle.frame_text.specs.Front.{Front, Whole, Short}
+use Rattle.frame_text.specs.Frames.{fits}
+use Rattle.frame_text.specs.Front.{Whole, Short}
 use Rattle.frame_text.specs.Reading.{front, packed_at, token_at, head_at}
 use Rattle.std.proofs.lemmas.List.{append-nil}
 use Rattle.frame_text.proofs.Steady.{front_cut}
 use Rattle.frame_text.proofs.Texts.{front-text}
 use Rattle.mux_items.specs.Bodies.{ChannelFrame, frame_of, frame_text, frame_texts}
-use Rattle.mux_run.specs.Cuts.{IsCut, IsProperFront, BeginsFirst}
+use Rattle.mux_run.specs.Cuts.{IsCut, BeginsFirst}
 use Rattle.duo_world.proofs.Sayings.{Fit}
 
 front_nothing : (v : Version) → is_packed v ≡ true → front v [] ≡ Short

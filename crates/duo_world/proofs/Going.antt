@@ -1,33 +1,26 @@
 -- A step of an end that applies what is whole.
-use Rattle.std.specs.Prelude.{if◌then◌else◌, nat_lt, Bool, true, false, is_none, ◌⊎◌}
-use Rattle.std.proofs.Common.{◌≡◌, ℕ, ◌+◌, ◌<◌, ◌≤◌, List, [], ◌∷◌, ◌++◌, length, drop, refl, sym, ◌∙◌, ap, subst, inl, inr, arith, Option, Some, None}
-use Rattle.std.proofs.lemmas.Bool.{cases_Bool, lt-ltb, le-ltb}
-use Rattle.std.proofs.lemmas.List.{append-nil}
+use Rattle.std.specs.Prelude.{if◌then◌else◌, true, is_none}
+use Rattle.std.proofs.Common.{◌≡◌, ℕ, ◌≤◌, List, [], ◌∷◌, ◌++◌, length, refl, sym, ◌∙◌, ap, subst, arith, Option, Some, None}
+use Rattle.std.proofs.lemmas.Bool.{lt-ltb, le-ltb}
 use Rattle.wire_base.specs.declared.frame.Version.{Version}
-use Rattle.wire_base.specs.declared.frame.Version.TheVariants as version
 use Rattle.wire_base.specs.declared.reason.Reason.{Reason}
-use Rattle.wire_base.specs.declared.reason.Reason.TheVariants as reason
 use Rattle.wire_base.specs.declared.state.Cause.{Cause}
-use Rattle.wire_base.specs.declared.state.Cause.TheVariants as cause
-use Rattle.frame_text.specs.Front.{Front, Whole, Short}
-use Rattle.frame_text.specs.Reading.{front}
 use Rattle.mux_items.specs.declared.channel.ChannelKey.{ChannelKey}
 use Rattle.mux_items.specs.declared.channel.MuxEvent.{MuxEvent}
-use Rattle.mux_items.specs.Bodies.{FrameBody, Offer, OfferAccepted, Content, ContentWritingCompleted, ChannelTerminated, ContentProcessed, ChannelFrame, frame_on, frame_of, flip, frame_text, frame_texts, taken_frame}
+use Rattle.mux_items.specs.Bodies.{FrameBody, Offer, OfferAccepted, Content, ContentWritingCompleted, ChannelTerminated, ContentProcessed, ChannelFrame, flip, frame_text, frame_texts}
 use Rattle.mux_items.specs.Items.{Item, Got, End, is_running, ended, party_of}
 use Rattle.mux_items.specs.Kept.{keys}
 use Rattle.mux_items.specs.Due.{due, got}
 use Rattle.mux_items.specs.Refusals.{frame_refusal}
-use Rattle.mux_items.specs.Applying.{frame_event, place_at, is_offer}
-use Rattle.mux_run.specs.Plain.{IsPlainNext, is_plain_body}
+use Rattle.mux_items.specs.Applying.{frame_event}
+use Rattle.mux_run.specs.Plain.{IsPlainNext}
 use Rattle.mux_run.specs.Run.{Half, Ways, next_frames, place_after, settled}
 use Rattle.mux_run.specs.Answers.{events_since, event_list}
 use Rattle.mux_run.specs.declared.answers.EndEvent.{EndEvent}
 use Rattle.mux_run.specs.declared.answers.EndEvent.TheVariants as event
-use Rattle.mux_end.specs.declared.step.MuxStep.{MuxStep}
 use Rattle.mux_end.specs.declared.step.MuxStep.TheVariants as step
 use Rattle.mux_end.specs.Stands.{EndValue, MuxStands}
-use Rattle.mux_end.specs.Replies.{Adds, Next, Applies, Waits, Refuses, next_by, next_taken, next_from, next_of, refused_at, StepAnswers, built_refusal, second_offer, reason_or}
+use Rattle.mux_end.specs.Replies.{Next, Applies, Waits, Refuses, next_by, next_taken, next_from, next_of, refused_at, StepAnswers, built_refusal, second_offer, reason_or}
 use Rattle.duo_world.specs.Holding.{place_of, rest_of, HalfStands}
 use Rattle.duo_world.specs.Settling.{half, IsSettling, IsOnWay, IsSettled}
 use Rattle.duo_world.proofs.Sayings.{taken_flip}
@@ -115,14 +108,17 @@ event_goes w d older old new events items y e next o (applies f fs some ok) a =
     let place = place_of w (half items d) y in
     let item = Got place (flip f).key f.body in
     let here = o.stands.version in
-    let at : place ≡ place_after w (length (got items)) y = place_settling w (half items d) y o.settling.three in
-    (item ∷ items, record {
-      settling = settling_got w d place items y f fs o.settling some;
-      stands = half_got w old new items d y f fs o.settling some o.stands a.1.stands (a.1.output ∙ ap (λ v. old.output ++ frame_texts v (due v item items)) here) a.1.version a.1.nonce;
-      runs = o.runs;
-      newer = omega (arith, o.newer);
-      events_are = ap (λ es. es ++ event.Mux e ∷ []) o.events_are ∙ (ap (λ e. events_since v older items ++ event.Mux e ∷ []) (a.0 ∙ ap (λ v. frame_event v (flip f).key f.body items) here) ∙ sym (events_more v older item items o.newer));
-    }, ap (λ n. (settled w d (Got n (flip f).key f.body ∷ items) y).items) at ∙ settled_got w d items y f fs o.settling some o.runs ok)
+    let at : place ≡ place_after w (length (got items)) y = place_settling w (half items d) y o.settling.three in (
+      item ∷ items,
+      record {
+        settling = settling_got w d place items y f fs o.settling some;
+        stands = half_got w old new items d y f fs o.settling some o.stands a.1.stands (a.1.output ∙ ap (λ v. old.output ++ frame_texts v (due v item items)) here) a.1.version a.1.nonce;
+        runs = o.runs;
+        newer = omega (arith, o.newer);
+        events_are = ap (λ es. es ++ event.Mux e ∷ []) o.events_are ∙ (ap (λ e. events_since v older items ++ event.Mux e ∷ []) (a.0 ∙ ap (λ v. frame_event v (flip f).key f.body items) here) ∙ sym (events_more v older item items o.newer));
+      },
+      ap (λ n. (settled w d (Got n (flip f).key f.body ∷ items) y).items) at ∙ settled_got w d items y f fs o.settling some o.runs ok,
+    )
 
 pub event_step : (w : Ways) (d older : ℕ) (old new : EndValue) (events : List EndEvent) (items : List Item) (y : Half) (e : MuxEvent) → IsOnWay w d older old events items y
     → ((items : List Item) (at : ℕ) (rest : List ℕ) → MuxStands old items at rest → StepAnswers old new items at rest (ended items) (next_of old.version items at rest) (step.Event e))
@@ -132,8 +128,8 @@ event_step w d older old new events items y e o answers =
     let rest = rest_of w (half items d) y in
     let a = answers items at rest o.stands.stands in
     event_goes w d older old new events items y e (next_of w.version items at rest) o (coming w d at items y o.settling)
-      (subst (λ c. StepAnswers old new items at rest c (next_of w.version items at rest) (step.Event e)) (running_none items o.runs)
-        (subst (λ v. StepAnswers old new items at rest (ended items) (next_of v items at rest) (step.Event e)) o.stands.version a))
+    (subst (λ c. StepAnswers old new items at rest c (next_of w.version items at rest) (step.Event e)) (running_none items o.runs)
+    (subst (λ v. StepAnswers old new items at rest (ended items) (next_of v items at rest) (step.Event e)) o.stands.version a))
 
 -- a step that found nothing whole
 short_stays : (w : Ways) (d : ℕ) (old new : EndValue) (items : List Item) (y : Half) (at : ℕ) (rest : List ℕ) (next : Next) → Coming w d items y at next
@@ -150,11 +146,11 @@ short_step w d older old new events items y o answers =
     let rest = rest_of w (half items d) y in
     let a = answers items at rest o.stands.stands in
     let both = short_stays w d old new items y at rest (next_of w.version items at rest) (coming w d at items y o.settling)
-        (subst (λ c. StepAnswers old new items at rest c (next_of w.version items at rest) step.Short) (running_none items o.runs)
-          (subst (λ v. StepAnswers old new items at rest (ended items) (next_of v items at rest) step.Short) o.stands.version a)) in
+    (subst (λ c. StepAnswers old new items at rest c (next_of w.version items at rest) step.Short) (running_none items o.runs)
+    (subst (λ v. StepAnswers old new items at rest (ended items) (next_of v items at rest) step.Short) o.stands.version a)) in
     let same : items ≡ (settled w d items y).items = sym (settled_none w d items y o.settling.three both.1) in
     subst (λ now. IsSettled w older new events (half now d) y) same
-      (record { stands = subst (λ end. HalfStands w end (half items d) y) (sym both.0) o.stands; sayable = o.settling.sayable; events_are = o.events_are })
+    (record { stands = subst (λ end. HalfStands w end (half items d) y) (sym both.0) o.stands; sayable = o.settling.sayable; events_are = o.events_are })
 
 -- a step that refused a frame
 ended_stops : (w : Ways) (d older : ℕ) (old new : EndValue) (events : List EndEvent) (items : List Item) (y : Half) (c : Cause) (next : Next) → IsOnWay w d older old events items y → Coming w d items y (place_of w (half items d) y) next
@@ -166,7 +162,7 @@ ended_stops w d older old new events items y c next o (refuses f fs r some refus
     let place = place_of w (half items d) y in
     let at : place ≡ place_after w (length (got items)) y = place_settling w (half items d) y o.settling.three in
     let same : End c ∷ items ≡ (settled w d items y).items =
-        ap (λ c. End c ∷ items) a.0 ∙ (ap (λ n. End (refused_at n r) ∷ items) at ∙ sym (settled_refused w d items y f fs r o.settling some o.runs refusal)) in
+    ap (λ c. End c ∷ items) a.0 ∙ (ap (λ n. End (refused_at n r) ∷ items) at ∙ sym (settled_refused w d items y f fs r o.settling some o.runs refusal)) in
     subst (λ now. IsSettled w older new (events ++ event.Ended c ∷ []) (half now d) y) same (record {
       stands = half_item w old new (End c) items d y o.settling.three refl o.stands a.1.stands (a.1.output ∙ ap (λ v. old.output ++ frame_texts v (due v (End c) items)) o.stands.version) a.1.version a.1.nonce;
       sayable = (tt, o.settling.sayable);
@@ -181,8 +177,8 @@ ended_step w d older old new events items y c o answers =
     let rest = rest_of w (half items d) y in
     let a = answers items at rest o.stands.stands in
     ended_stops w d older old new events items y c (next_of w.version items at rest) o (coming w d at items y o.settling)
-      (subst (λ k. StepAnswers old new items at rest k (next_of w.version items at rest) (step.Ended c)) (running_none items o.runs)
-        (subst (λ v. StepAnswers old new items at rest (ended items) (next_of v items at rest) (step.Ended c)) o.stands.version a))
+    (subst (λ k. StepAnswers old new items at rest k (next_of w.version items at rest) (step.Ended c)) (running_none items o.runs)
+    (subst (λ v. StepAnswers old new items at rest (ended items) (next_of v items at rest) (step.Ended c)) o.stands.version a))
 
 -- the loop
 
@@ -204,4 +200,4 @@ pub going_ended : (w : Ways) (d older : ℕ) (old new : EndValue) (events events
     → events' ≡ events ++ event.Ended c ∷ [] → IsSettled w older new events' (settled w d items y) y
 going_ended w d older old new events events' items y c g answers is =
     subst (λ now. IsSettled w older new events' (half now d) y) g.2
-      (subst (λ es. IsSettled w older new es (settled w d g.0 y) y) (sym is) (ended_step w d older old new events g.0 y c g.1 answers))
+    (subst (λ es. IsSettled w older new es (settled w d g.0 y) y) (sym is) (ended_step w d older old new events g.0 y c g.1 answers))

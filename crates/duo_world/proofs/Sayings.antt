@@ -1,7 +1,7 @@
 -- The frames that an end sends have spellings, and are taken for what they are.
 use Rattle.std.specs.Prelude.{if◌then◌else◌, ◌==◌, nat_lt, not, ◌&&◌, ◌||◌, min, zero, suc, Bool, true, false}
 use Rattle.std.specs.List.{list_any}
-use Rattle.std.proofs.Common.{◌≡◌, ℕ, ◌+◌, ◌<◌, ◌≤◌, List, [], ◌∷◌, ◌++◌, length, take, drop, map, refl, sym, ◌∙◌, ap, subst, inl, inr, arith, length-take, Option, Some, None}
+use Rattle.std.proofs.Common.{◌≡◌, ℕ, ◌<◌, List, [], ◌∷◌, ◌++◌, length, take, drop, map, refl, sym, ◌∙◌, ap, subst, inl, inr, arith, length-take, Some}
 use Rattle.std.proofs.lemmas.Bool.{cases_Bool, and_parts, lt-ltb, ltb-true}
 use Rattle.wire_base.specs.declared.frame.Version.{Version}
 use Rattle.wire_base.specs.declared.frame.Version.TheVariants as version
@@ -14,7 +14,7 @@ use Rattle.mux_items.specs.Bodies.{FrameBody, Offer, OfferAccepted, Content, Con
 use Rattle.mux_items.specs.Items.{Item, Hello, DidOffer, DidAccept, DidWrite, DidRead, DidComplete, DidTerminate, Got, Rejected, End, is_running}
 use Rattle.mux_items.specs.Kept.{keys, is_known}
 use Rattle.mux_items.specs.Lists.{unread, is_live}
-use Rattle.mux_items.specs.Due.{pieces_in, pieces, piece_size, content_frames, newly_emitted, completes, terminates, due_on, written_window, acknowledgement, due, sent}
+use Rattle.mux_items.specs.Due.{pieces_in, piece_size, content_frames, newly_emitted, completes, terminates, due_on, written_window, acknowledgement, due, sent}
 use Rattle.mux_items.proofs.Keys.{same_key_true}
 use Rattle.mux_end.proofs.Fits.{fits_offer, fits_accepted, fits_content, fits_processed}
 use Rattle.duo_world.specs.Sayable.{IsSayableKey, IsSayable, AreSayable}
@@ -78,10 +78,10 @@ due_on_fits v c first item items p s f =
     let last = if terminates v c item items then frame_on c ChannelTerminated ∷ [] else [] in
     let third = if completes v c item items then frame_on c ContentWritingCompleted ∷ [] else [] in
     fit-append v (first ++ content_frames c bytes ++ third) last
-      (fit-append v (first ++ content_frames c bytes) third
-        (fit-append v first (content_frames c bytes) f (pieces_fit v c (length bytes) bytes p s))
-        (if_fit v (completes v c item items) (frame_on c ContentWritingCompleted) (completion_fits v c p s)))
-      (if_fit v (terminates v c item items) (frame_on c ChannelTerminated) (termination_fits v c p s))
+    (fit-append v (first ++ content_frames c bytes) third
+    (fit-append v first (content_frames c bytes) f (pieces_fit v c (length bytes) bytes p s))
+    (if_fit v (completes v c item items) (frame_on c ContentWritingCompleted) (completion_fits v c p s)))
+    (if_fit v (terminates v c item items) (frame_on c ChannelTerminated) (termination_fits v c p s))
 
 pub packed_window : (v : Version) (size : ℕ) → is_packed v ≡ true → written_window v size ≡ Some size
 packed_window version.One size p = absurd cc
@@ -101,8 +101,8 @@ if_none_fit v false fs f = f
 acknowledgement_fits : (v : Version) (c : ChannelKey) (count : ℕ) (items : List Item) → is_packed v ≡ true → IsSayableKey c → count < 0x8000000000000000 → Fit v (acknowledgement v c count items)
 acknowledgement_fits v c count items p s small =
     if_none_fit v (is_one v) _
-      (if_none_fit v (count == 0) _
-        (if_fit v (is_running items && is_live v c items) (frame_on c (ContentProcessed count)) (fits_processed v c count p s.above s.below small)))
+    (if_none_fit v (count == 0) _
+    (if_fit v (is_running items && is_live v c items) (frame_on c (ContentProcessed count)) (fits_processed v c count p s.above s.below small)))
 
 due_fits : (v : Version) (item : Item) (items : List Item) → is_packed v ≡ true → IsSayable item → Fit v (due v item items)
 due_fits v (Hello party) items p s = tt

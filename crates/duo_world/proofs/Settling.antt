@@ -1,34 +1,30 @@
 -- What an end that applies frames goes through.
-use Rattle.std.specs.Prelude.{if◌then◌else◌, not, ◌&&◌, ◌||◌, nat_lt, nat_le, Bool, true, false, zero, suc}
-use Rattle.std.proofs.Common.{◌≡◌, ℕ, ◌+◌, ◌-◌, ◌<◌, ◌≤◌, List, [], ◌∷◌, ◌++◌, length, take, drop, map, refl, sym, ◌∙◌, ap, subst, inl, inr, arith, length-append, length-drop, append_assoc, zero-add, Option, Some, None}
-use Rattle.std.proofs.lemmas.Bool.{cases_Bool}
+use Rattle.std.specs.Prelude.{if◌then◌else◌, not, ◌&&◌, ◌||◌, nat_le, Bool, true, false, suc}
+use Rattle.std.proofs.Common.{◌≡◌, ℕ, ◌+◌, ◌-◌, List, [], ◌∷◌, ◌++◌, length, take, drop, refl, sym, ◌∙◌, ap, subst, arith, length-append, length-drop, append_assoc, zero-add, Some, None}
 use Rattle.std.proofs.lemmas.List.{append-nil, take-append-le, take-append-drop, drop-append-le, drop-drop}
 use Rattle.wire_base.specs.declared.frame.Version.{Version}
 use Rattle.wire_base.specs.declared.frame.Version.TheVariants as version
 use Rattle.wire_base.specs.declared.reason.Reason.{Reason}
-use Rattle.wire_base.specs.declared.state.Cause.{Cause}
 use Rattle.wire_base.specs.declared.state.Cause.TheVariants as cause
 use Rattle.frame_text.specs.Hello.{hello}
 use Rattle.frame_text.specs.Codec.{is_packed}
 use Rattle.frame_text.specs.Frames.{fits}
-use Rattle.frame_text.specs.Front.{Front, Whole, Short}
+use Rattle.frame_text.specs.Front.{Whole, Short}
 use Rattle.frame_text.specs.Reading.{front}
-use Rattle.mux_items.specs.declared.channel.ChannelKey.{ChannelKey}
-use Rattle.mux_items.specs.Bodies.{FrameBody, ChannelFrame, frame_on, frame_of, flip, frame_text, frame_texts, is_three}
-use Rattle.mux_items.specs.Items.{Item, Got, Rejected, End, is_running, greeting}
+use Rattle.mux_items.specs.Bodies.{ChannelFrame, frame_of, flip, frame_text, frame_texts, is_three}
+use Rattle.mux_items.specs.Items.{Item, Got, End, is_running, greeting}
 use Rattle.mux_items.specs.Due.{due, sent, got}
 use Rattle.mux_items.specs.Refusals.{is_ready, is_greeted, frame_refusal}
-use Rattle.mux_items.specs.Applying.{Allowed, apply_frame, after_frame, item_of_frame, is_refused_room, place_at}
+use Rattle.mux_items.specs.Applying.{after_frame, place_at}
 use Rattle.mux_run.specs.Cuts.{IsCut}
-use Rattle.mux_run.specs.Plain.{ArePlain, IsPlainWay, IsPlainNext}
-use Rattle.mux_run.specs.Run.{Half, Ways, out, greeting_size, greet, greeted, apply_frames, whole_frames, next_frames, place_after, settled}
+use Rattle.mux_run.specs.Plain.{IsPlainWay, IsPlainNext}
+use Rattle.mux_run.specs.Run.{Half, Ways, out, greeting_size, greet, apply_frames, whole_frames, next_frames, place_after, settled}
 use Rattle.mux_run.proofs.WholeFrames.{frame_texts-append, whole_front, cut_after, drop_next, take_next}
 use Rattle.mux_run.proofs.Growing.{apply_frames_stopped, apply_frames_more, out-more}
 use Rattle.mux_run.proofs.Plain.{plain_next, plain_room, plain_more, plain_way, frame_got}
 use Rattle.mux_end.specs.Stands.{EndValue, MuxStands}
-use Rattle.duo_world.specs.Sayable.{IsSayable, IsSayableKey, AreSayable}
 use Rattle.duo_world.specs.Holding.{place_of, rest_of, HalfStands}
-use Rattle.duo_world.specs.Settling.{half, IsSettling, IsOnWay, IsSettled}
+use Rattle.duo_world.specs.Settling.{half, IsSettling}
 use Rattle.duo_world.proofs.Sayings.{Fit, fit-back, sent_fits, fit_key}
 use Rattle.duo_world.proofs.Fronts.{front_none, front_some}
 
@@ -74,7 +70,7 @@ settled_three : (w : Ways) (d : ℕ) (items : List Item) (y : Half) → w.versio
     → (settled w d items y).items ≡ apply_frames w.version (place_after w (length (got items)) y) (next_frames w d (length (got items)) y) items
 settled_three w d items y e =
     ap (λ after. if is_ready w.version after then apply_frames w.version (place_after w (length (got after)) y) (next_frames w d (length (got after)) y) after else after)
-      (skipped (is_running items) (is_ready w.version items) (nat_le (greeting_size w) d) (greet w ∷ items) items (ready_three w.version items e))
+    (skipped (is_running items) (is_ready w.version items) (nat_le (greeting_size w) d) (greet w ∷ items) items (ready_three w.version items e))
     ∙ ap (λ b. if b then apply_frames w.version (place_after w (length (got items)) y) (next_frames w d (length (got items)) y) items else items) (ready_three w.version items e)
 
 rest_cut : (w : Ways) (d : ℕ) (items : List Item) (y : Half) → IsSettling w d items y
@@ -84,7 +80,7 @@ rest_cut w d items y s =
     let others = drop (length (whole_frames w.version d frames)) frames in
     let cut = cut_after w.version d (length (got items)) frames s.within in
     subst (λ bs. IsCut w.version bs (next_frames w d (length (got items)) y) others) (sym (rest_is w (half items d) y s.three))
-      (subst (λ fs. IsCut w.version (drop (length (frame_texts w.version (take (length (got items)) frames))) (take d (frame_texts w.version frames))) fs others) (sym (next_three w d (length (got items)) y s.three)) cut)
+    (subst (λ fs. IsCut w.version (drop (length (frame_texts w.version (take (length (got items)) frames))) (take d (frame_texts w.version frames))) fs others) (sym (next_three w d (length (got items)) y s.three)) cut)
 
 others_fit : (w : Ways) (d : ℕ) (items : List Item) (y : Half) → IsSettling w d items y → Fit w.version (drop (length (whole_frames w.version d (sent w.version y.items))) (sent w.version y.items))
 others_fit w d items y s =
@@ -98,7 +94,7 @@ front_short w d items y s e =
     let frames = sent w.version y.items in
     let others = drop (length (whole_frames w.version d frames)) frames in
     front_none w.version (rest_of w (half items d) y) others (packed_three w.version s.three) (others_fit w d items y s)
-      (subst (λ fs. IsCut w.version (rest_of w (half items d) y) fs others) e (rest_cut w d items y s))
+    (subst (λ fs. IsCut w.version (rest_of w (half items d) y) fs others) e (rest_cut w d items y s))
 
 -- the frames after those that were applied
 behind : (w : Ways) (d : ℕ) (items : List Item) (y : Half) (f : ChannelFrame) (fs : List ChannelFrame) → IsSettling w d items y → next_frames w d (length (got items)) y ≡ f ∷ fs
@@ -125,7 +121,7 @@ front_frame w d items y f fs s e =
     let frames = sent w.version y.items in
     let others = drop (length (whole_frames w.version d frames)) frames in
     front_some w.version (rest_of w (half items d) y) f fs others (packed_three w.version s.three) (next_fits w d items y f fs s e)
-      (subst (λ gs. IsCut w.version (rest_of w (half items d) y) gs others) e (rest_cut w d items y s))
+    (subst (λ gs. IsCut w.version (rest_of w (half items d) y) gs others) e (rest_cut w d items y s))
 
 -- the way with the next frames
 next_way : (w : Ways) (d : ℕ) (items : List Item) (y : Half) (f : ChannelFrame) (fs : List ChannelFrame) → IsSettling w d items y → next_frames w d (length (got items)) y ≡ f ∷ fs → IsPlainWay w.version items y.items (f ∷ fs)
@@ -168,7 +164,7 @@ place_got w d items y f fs s e =
     let k = length (got items) in
     let b = behind w d items y f fs s e in
     let texts : frame_texts v (take (suc k) frames) ≡ frame_texts v (take k frames) ++ frame_text v f =
-        ap (frame_texts v) (take_next k frames f b.0 b.1) ∙ (frame_texts-append v (take k frames) (f ∷ []) ∙ ap (λ bs. frame_texts v (take k frames) ++ bs) (append-nil (frame_text v f))) in
+    ap (frame_texts v) (take_next k frames f b.0 b.1) ∙ (frame_texts-append v (take k frames) (f ∷ []) ∙ ap (λ bs. frame_texts v (take k frames) ++ bs) (append-nil (frame_text v f))) in
     ap (λ n. place_after w n y) (one_more items (flip f))
     ∙ omega (arith, ap length texts, length-append (frame_texts v (take k frames)) (frame_text v f))
 
@@ -236,12 +232,12 @@ half_got w old new items d y f fs s e h stands output version nonce =
     let item = Got (place_of w (half items d) y) (flip f).key f.body in
     let size = length (frame_text w.version f) in
     let place : place_of w (half (item ∷ items) d) y ≡ place_of w (half items d) y + size =
-        place_settling w (half (item ∷ items) d) y s.three ∙ (place_got w d items y f fs s e ∙ ap (λ n. n + size) (sym (place_settling w (half items d) y s.three))) in
+    place_settling w (half (item ∷ items) d) y s.three ∙ (place_got w d items y f fs s e ∙ ap (λ n. n + size) (sym (place_settling w (half items d) y s.three))) in
     let rest : rest_of w (half (item ∷ items) d) y ≡ drop size (rest_of w (half items d) y) =
-        ap (λ n. drop n (take d (out w.version w.peer y.items))) place ∙ sym (drop-drop size (place_of w (half items d) y) (take d (out w.version w.peer y.items))) in
+    ap (λ n. drop n (take d (out w.version w.peer y.items))) place ∙ sym (drop-drop size (place_of w (half items d) y) (take d (out w.version w.peer y.items))) in
     half_adds w old new item items d y h
-      (subst (λ at. MuxStands new (item ∷ items) at (rest_of w (half (item ∷ items) d) y)) (sym place) (subst (MuxStands new (item ∷ items) (place_of w (half items d) y + size)) (sym rest) stands))
-      output version nonce
+    (subst (λ at. MuxStands new (item ∷ items) at (rest_of w (half (item ∷ items) d) y)) (sym place) (subst (MuxStands new (item ∷ items) (place_of w (half items d) y + size)) (sym rest) stands))
+    output version nonce
 
 -- an item that applies no frame leaves the place and the rest
 place_same : (w : Ways) (d : ℕ) (before after : List Item) (y : Half) → w.version ≡ version.Three → got after ≡ got before → place_of w (half after d) y ≡ place_of w (half before d) y
@@ -254,5 +250,5 @@ half_item w old new item items d y e same h stands output version nonce =
     let place = place_same w d items (item ∷ items) y e same in
     let rest : rest_of w (half (item ∷ items) d) y ≡ rest_of w (half items d) y = ap (λ n. drop n (take d (out w.version w.peer y.items))) place in
     half_adds w old new item items d y h
-      (subst (λ at. MuxStands new (item ∷ items) at (rest_of w (half (item ∷ items) d) y)) (sym place) (subst (MuxStands new (item ∷ items) (place_of w (half items d) y)) (sym rest) stands))
-      output version nonce
+    (subst (λ at. MuxStands new (item ∷ items) at (rest_of w (half (item ∷ items) d) y)) (sym place) (subst (MuxStands new (item ∷ items) (place_of w (half items d) y)) (sym rest) stands))
+    output version nonce

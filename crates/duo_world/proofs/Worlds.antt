@@ -1,15 +1,13 @@
 -- What a step makes of two ends that stand for a run.
-use Rattle.std.specs.Prelude.{Bool, true, false, ◌&&◌, if◌then◌else◌, not}
+use Rattle.std.specs.Prelude.{cond, Bool, true, false, if◌then◌else◌, not}
 use Rattle.std.specs.List.{list_all}
-use Rattle.std.proofs.Common.{◌≡◌, ℕ, ◌+◌, ◌-◌, ◌<◌, ◌≤◌, List, [], ◌∷◌, ◌++◌, length, take, drop, refl, sym, ◌∙◌, ap, ap₂, subst, inl, inr, arith, length-append, Option, Some, None, Result, Ok, Err, IfOk}
-use Rattle.std.proofs.lemmas.Bool.{and_parts, cases_Bool}
-use Rattle.std.proofs.lemmas.List.{append-nil, take-append-drop, append_cancel_left, drop-append-le, drop-drop, drop_at}
+use Rattle.std.proofs.Common.{◌≡◌, ℕ, ◌+◌, ◌-◌, ◌≤◌, List, [], ◌∷◌, ◌++◌, length, drop, refl, sym, ◌∙◌, ap, ap₂, subst, arith, append_assoc, None, Result, Ok, Err, IfOk}
+use Rattle.std.proofs.lemmas.Bool.{and_parts}
+use Rattle.std.proofs.lemmas.List.{drop-append-le, drop-drop, drop_at}
 use Rattle.std.proofs.lemmas.List.Folds.{list_all-append}
-use Rattle.wire_base.specs.declared.frame.Version.{Version}
-use Rattle.wire_base.specs.declared.frame.Version.TheVariants as version
+use Rattle.std.proofs.lemmas.List.Sums.{sum_by-append}
 use Rattle.wire_base.specs.declared.state.Cause.TheVariants as cause
 use Rattle.wire_base.specs.declared.out_of_memory.OutOfMemory.{OutOfMemory}
-use Rattle.mux_items.specs.declared.channel.ChannelKey.{ChannelKey}
 use Rattle.mux_items.specs.Items.{Item, End, is_running}
 use Rattle.mux_items.specs.Kept.{keys}
 use Rattle.mux_run.specs.declared.steps.Side.{Side}
@@ -19,25 +17,19 @@ use Rattle.mux_run.specs.declared.steps.Step.TheVariants as step
 use Rattle.mux_run.specs.declared.answers.DuoAnswer.{DuoAnswer}
 use Rattle.mux_run.specs.declared.answers.DuoAnswer.TheVariants as duo
 use Rattle.mux_run.specs.Built.{AreBuilt, is_built_step, is_offer_step}
-use Rattle.mux_run.specs.Plain.{IsPlainStep, IsPlainStepOn}
-use Rattle.mux_run.specs.Run.{Half, World, Terms, Ways, ways_a, ways_b, turned, out, settled, called, in_flight, added, is_spent, delivered_to, ended_half, half_after, side_of, happens_at, happens, fresh, start, run_from, run}
-use Rattle.mux_run.specs.Answers.{answer_at, answer_on, answer}
-use Rattle.mux_run.specs.Linked.{Joined}
-use Rattle.mux_run.specs.Fed.{AreFed}
-use Rattle.mux_run.proofs.WholeFrames.{drop_nil}
+use Rattle.mux_run.specs.Plain.{IsPlainStepOn}
+use Rattle.mux_run.specs.Run.{Half, World, Terms, Ways, ways_a, ways_b, turned, out, settled, added, is_spent, delivered_to, ended_half, half_after, side_of, happens_at, happens, start, run}
+use Rattle.mux_run.specs.Answers.{answer_on}
 use Rattle.mux_run.proofs.Growing.{half_after_grown, out-grows}
 use Rattle.mux_run.proofs.Links.{run_joined, turned_joined, run_from-push}
 use Rattle.mux_run.proofs.Fed.{run_fed}
-use Rattle.mux_run.proofs.Plain.{built_step, built_front}
+use Rattle.mux_run.proofs.Plain.{built_step}
 use Rattle.mux_run.proofs.Safety.{run_safe}
 use Rattle.mux_end.specs.Lane.{lane_of_keys}
-use Rattle.mux_end.specs.Stands.{EndValue, MuxStands}
-use Rattle.mux_end.specs.Ends.{IsStarted}
+use Rattle.mux_end.specs.Stands.{EndValue}
 use Rattle.duo_world.specs.Sayable.{AreSayable}
-use Rattle.duo_world.specs.Holding.{place_of, rest_of, HalfStands, WorldStands, DuoState, StandsForRun, IsHeld, flight_to, output_to}
-use Rattle.duo_world.specs.Settling.{half}
-use Rattle.duo_world.specs.Stepping.{IsCallable, IsReadyFor, AreStanding, StepAnswersAt, IsReadyAt, WorldAnswers, newly_out, Emits, EmitsOn, IsStepped, Steps, HasRun}
-use Rattle.duo_world.proofs.Settling.{place_is}
+use Rattle.duo_world.specs.Holding.{HalfStands, WorldStands, DuoState, StandsForRun, IsHeld}
+use Rattle.duo_world.specs.Stepping.{IsReadyFor, AreStanding, StepAnswersAt, IsReadyAt, WorldAnswers, newly_out, Emits, EmitsOn, IsStepped, Steps}
 use Rattle.duo_world.proofs.Feeding.{in_flight_is}
 
 -- a step at either side
@@ -142,9 +134,9 @@ emits w s own own' peer peer' x y h p h' p' =
     let sum : x.delivered + (x'.delivered - x.delivered) ≡ x'.delivered = omega (arith, count_grows w s x y) in
     record {
       own_output = in_flight_is (turned w) own' y x' h' ∙ (ap (drop y.delivered) grown ∙ (drop-append-le y.delivered (out v w.own x.items) on.0 h.bound
-        ∙ ap₂ (λ front back. front ++ back) (sym (in_flight_is (turned w) own y x h)) (sym new)));
+          ∙ ap₂ (λ front back. front ++ back) (sym (in_flight_is (turned w) own y x h)) (sym new)));
       peer_output = in_flight_is w peer' x' y p' ∙ (ap (λ k. drop k (out v w.peer y.items)) (sym sum) ∙ (sym (drop-drop (x'.delivered - x.delivered) x.delivered (out v w.peer y.items))
-        ∙ ap (drop (x'.delivered - x.delivered)) (sym (in_flight_is w peer x y p))));
+          ∙ ap (drop (x'.delivered - x.delivered)) (sym (in_flight_is w peer x y p))));
     }
 
 emits_on : (terms : Terms) (s : Step) (side : Side) (a a' b b' : EndValue) (w : World) → WorldStands terms a b w → WorldStands terms a' b' (happens_at terms side s w)
@@ -162,22 +154,24 @@ stepped d d' s reply h built terms steps works answers =
     let now : run d'.terms d'.steps ≡ next = ap₂ run terms steps ∙ run_from-push d.terms start d.steps s in
     let both = answers.1 in
     let there : WorldStands d.terms d'.a d'.b next = record { at_a = both.own_stands.stands; at_b = both.peer_stands.stands } in
-    let stands : StandsForRun d' = subst (λ t. WorldStands t d'.a d'.b (run d'.terms d'.steps)) (sym terms) (subst (WorldStands d.terms d'.a d'.b) (sym now) there) in
-    (record {
-      reply_is = answers.0;
-      steps_are = steps;
-      terms_are = terms;
-      works = works;
-      stands = stands;
-      safe = run_safe d'.terms d'.steps;
-      emits = subst (λ w'. EmitsOn (side_of s) d.terms w w' d.a d'.a d.b d'.b) (sym now) (emits_on d.terms s (side_of s) d.a d'.a d.b d'.b w h.stands there);
-    }, record {
-      three = ap (λ t. t.version) terms ∙ h.three;
-      built = subst AreBuilt (sym steps) built;
-      stands = stands;
-      sayable_a = subst (λ w. AreSayable w.a.items) (sym now) both.own_stands.sayable;
-      sayable_b = subst (λ w. AreSayable w.b.items) (sym now) both.peer_stands.sayable;
-    })
+    let stands : StandsForRun d' = subst (λ t. WorldStands t d'.a d'.b (run d'.terms d'.steps)) (sym terms) (subst (WorldStands d.terms d'.a d'.b) (sym now) there) in (
+      record {
+        reply_is = answers.0;
+        steps_are = steps;
+        terms_are = terms;
+        works = works;
+        stands = stands;
+        safe = run_safe d'.terms d'.steps;
+        emits = subst (λ w'. EmitsOn (side_of s) d.terms w w' d.a d'.a d.b d'.b) (sym now) (emits_on d.terms s (side_of s) d.a d'.a d.b d'.b w h.stands there);
+      },
+      record {
+        three = ap (λ t. t.version) terms ∙ h.three;
+        built = subst AreBuilt (sym steps) built;
+        stands = stands;
+        sayable_a = subst (λ w. AreSayable w.a.items) (sym now) both.own_stands.sayable;
+        sayable_b = subst (λ w. AreSayable w.b.items) (sym now) both.peer_stands.sayable;
+      },
+    )
 
 -- a made step doesn't answer want of memory
 
@@ -194,3 +188,16 @@ stepped_answers d d' s duo.OutOfMemory h = absurd (never (side_of s) s h.reply_i
     never B (step.Call side c) e = cc
     never B (step.Deliver side n) e = cc
     never B (step.End side) e = cc
+
+-- the first of built steps are built, and one more of them
+
+pub built_first : (front back : List Step) → AreBuilt (front ++ back) → AreBuilt front
+built_first front back built = record {
+  each = (and_parts (list_all is_built_step front) (list_all is_built_step back) (sym (list_all-append is_built_step front back) ∙ built.each)).0;
+  one_offer = omega (arith, built.one_offer, sum_by-append (λ s. cond (is_offer_step s) 1 0) front back);
+}
+
+pub built_next : (steps done rest back : List Step) (s : Step) → AreBuilt steps → done ++ rest ≡ steps → rest ≡ s ∷ back → AreBuilt (done ++ s ∷ [])
+built_next steps done rest back s built whole next =
+    let all : (done ++ s ∷ []) ++ back ≡ steps = append_assoc done (s ∷ []) back ∙ (ap (λ xs. done ++ xs) (sym next) ∙ whole) in
+    built_first (done ++ s ∷ []) back (subst AreBuilt (sym all) built)

@@ -1,8 +1,7 @@
 -- When two ends stand for the two halves of a run.
-use Rattle.std.specs.Prelude.{◌≡◌, ◌≤◌, ℕ, ◌-◌, List, [], ◌∷◌, ◌++◌, length, take, drop, slice_index_or, Bool, true, false, if◌then◌else◌}
+use Rattle.std.specs.Prelude.{◌≡◌, ◌≤◌, ℕ, List, [], ◌++◌, length, take, drop, slice_index_or, Bool, false, if◌then◌else◌}
 use Rattle.wire_base.specs.declared.frame.Version.{Version}
 use Rattle.wire_base.specs.declared.frame.Version.TheVariants as version
-use Rattle.mux_items.specs.Bodies.{frame_texts, flip}
 use Rattle.mux_items.specs.Due.{got}
 use Rattle.mux_items.specs.Refusals.{is_ready}
 use Rattle.mux_end.specs.Stands.{EndValue, MuxStands}

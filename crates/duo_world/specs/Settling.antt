@@ -4,7 +4,7 @@ use Rattle.wire_base.specs.declared.frame.Version.TheVariants as version
 use Rattle.mux_items.specs.Items.{Item, is_running}
 use Rattle.mux_items.specs.Due.{sent, got}
 use Rattle.mux_run.specs.declared.answers.EndEvent.{EndEvent}
-use Rattle.mux_run.specs.Run.{Half, Ways, whole_frames, settled}
+use Rattle.mux_run.specs.Run.{Half, Ways, whole_frames}
 use Rattle.mux_run.specs.Plain.{IsPlainWay}
 use Rattle.mux_run.specs.Answers.{events_since}
 use Rattle.mux_end.specs.Stands.{EndValue}

@@ -1,11 +1,9 @@
 -- What a call, a delivery and a step leave of two ends.
-use Rattle.std.specs.Prelude.{◌≡◌, ℕ, ◌-◌, List, [], ◌∷◌, ◌++◌, length, drop, Bool, true, false, Result, Ok, Err}
-use Rattle.wire_base.specs.declared.frame.Version.{Version}
+use Rattle.std.specs.Prelude.{◌≡◌, ℕ, ◌-◌, List, [], ◌∷◌, ◌++◌, length, drop, true, false, Result, Ok, Err}
 use Rattle.wire_base.specs.declared.frame.Version.TheVariants as version
 use Rattle.wire_base.specs.declared.fault.CallFault.{CallFault}
 use Rattle.wire_base.specs.declared.fault.CallFault.TheVariants as fault
 use Rattle.wire_base.specs.declared.out_of_memory.OutOfMemory.{OutOfMemory}
-use Rattle.mux_items.specs.Items.{Item}
 use Rattle.mux_run.specs.declared.steps.Call.{Call}
 use Rattle.mux_run.specs.declared.steps.Side.{Side}
 use Rattle.mux_run.specs.declared.steps.Side.TheVariants.{A, B}
@@ -24,7 +22,7 @@ use Rattle.mux_run.specs.Safe.{IsSafeRun}
 use Rattle.mux_run.specs.Fed.{IsFed}
 use Rattle.mux_end.specs.Stands.{EndValue}
 use Rattle.duo_world.specs.Sayable.{AreSayable}
-use Rattle.duo_world.specs.Holding.{HalfStands, DuoState, StandsForRun, terms_of}
+use Rattle.duo_world.specs.Holding.{HalfStands, DuoState, StandsForRun}
 use Rattle.duo_world.specs.Settling.{half}
 
 -- an end of version 3 stands for the half x, whose items frames can say
@@ -107,11 +105,3 @@ Steps old new s duo.OutOfMemory = new.failed ≡ true
 Steps old new s (duo.Replied reply events) = IsStepped old new s (duo.Replied reply events)
 Steps old new s (duo.Delivered count events) = IsStepped old new s (duo.Delivered count events)
 Steps old new s duo.Ended = IsStepped old new s duo.Ended
-
--- a Duo ran these steps
-pub record HasRun (v : Version) (nonces : List (List ℕ)) (steps : List Step) (d : DuoState) : Type 0 where
-  pub terms_are : d.terms ≡ terms_of v nonces
-  pub steps_are : d.steps ≡ steps
-  pub works : d.failed ≡ false
-  pub stands : StandsForRun d
-  pub safe : IsSafeRun d.terms steps

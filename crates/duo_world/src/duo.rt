@@ -1,9 +1,10 @@
 //! Two joined ends, and the steps that were made with them.
 
-ghost use Rattle.duo_world.specs.Holding.{DuoHolds, end_of, flight_to, output_to};
-ghost use Rattle.duo_world.specs.Stepping.{HasRun, IsStepped, Steps};
+ghost use Rattle.duo_world.specs.Holding.{DuoHolds, StandsForRun, end_of, flight_to, output_to, terms_of};
+ghost use Rattle.duo_world.specs.Stepping.{IsStepped, Steps};
 ghost use Rattle.mux_run.specs.Built.{AreBuilt};
 ghost use Rattle.mux_run.specs.Run.{run};
+ghost use Rattle.mux_run.specs.Safe.{IsSafeRun};
 ghost use Rattle.std.specs.Prelude.{◌≡◌, [], ◌∷◌, ◌++◌, IfOk, OnErr, false, true};
 
 use crate::ends::answer;
@@ -40,7 +41,8 @@ impl Duo {
     /// Two ends with their first bytes in flight. The nonces are those of A and of B.
     pub fn start(alloc: Global, version: Version, nonces: [[u8; 16]; 2]) -> Result<Duo, OutOfMemory>
         requires { version ≡ Version.Three }
-        ensures { IfOk result (HasRun version nonces []) }
+        ensures fresh { IfOk result (λ d. (d.steps ≡ []) × (d.failed ≡ false) × (d.terms ≡ terms_of version nonces)) }
+        ensures stands { IfOk result StandsForRun }
     {
         let [nonce_a, nonce_b] = nonces;
         let a = MuxEnd::start(alloc, version, nonce_a)?;
@@ -87,10 +89,17 @@ impl Duo {
     }
 
     /// Makes all steps, in their order.
-    pub fn run(alloc: Global, version: Version, nonces: [[u8; 16]; 2], steps: StepList) -> Result<Duo, OutOfMemory>
+    pub fn run(
+        alloc: Global,
+        version: Version,
+        nonces: [[u8; 16]; 2],
+        steps: StepList,
+    ) -> Result<Duo, OutOfMemory>
         requires three { version ≡ Version.Three }
         requires built { AreBuilt steps }
-        ensures { IfOk result (HasRun version nonces steps) }
+        ensures stored { IfOk result (λ d. (d.steps ≡ steps) × (d.failed ≡ false) × (d.terms ≡ terms_of version nonces)) }
+        ensures stands { IfOk result StandsForRun }
+        ensures safe { IfOk result (λ d. IsSafeRun d.terms d.steps) }
     {
         let mut duo = Duo::start(alloc, version, nonces)?;
         for step in steps.into_vec() {

@@ -90,7 +90,12 @@ fn make_call(alloc: Global, own: &mut MuxEnd, call: &Call) -> Result<Reply, OutO
 
 /// Gives an end the next bytes of the other's output, at most so many, lets it apply what is whole, and answers how
 /// many were given.
-fn deliver(own: &mut MuxEnd, peer: &mut MuxEnd, n: u64, events: &mut EventList) -> Result<u64, OutOfMemory>
+fn deliver(
+    own: &mut MuxEnd,
+    peer: &mut MuxEnd,
+    n: u64,
+    events: &mut EventList,
+) -> Result<u64, OutOfMemory>
     ensures { (w : Ways) (side : Side) (x y : Half) → IsReadyFor w (Step.Deliver side n) own.old peer.old x y → events.old ≡ [] →
         IfOk result (Delivers w n own.new peer.new events.new x y) }
 {
@@ -130,7 +135,12 @@ fn answer_call(alloc: Global, own: &mut MuxEnd, call: &Call) -> Result<DuoAnswer
 }
 
 /// Makes a step at one side, whose end comes first.
-fn answer_step(alloc: Global, own: &mut MuxEnd, peer: &mut MuxEnd, step: &Step) -> Result<DuoAnswer, OutOfMemory>
+fn answer_step(
+    alloc: Global,
+    own: &mut MuxEnd,
+    peer: &mut MuxEnd,
+    step: &Step,
+) -> Result<DuoAnswer, OutOfMemory>
     requires built { is_built_step step.now ≡ true }
     requires free { is_offer_step step.now ≡ true → own.old.channel ≡ None }
     ensures { (w : Ways) (x y : Half) → IsReadyFor w step.now own.old peer.old x y → IfOk result (StepAnswersAt w step.now own.new peer.new x y) }
@@ -155,7 +165,12 @@ fn side_of(step: &Step) -> Side
 }
 
 /// Makes a step at its side.
-pub fn answer(alloc: Global, a: &mut MuxEnd, b: &mut MuxEnd, step: &Step) -> Result<DuoAnswer, OutOfMemory>
+pub fn answer(
+    alloc: Global,
+    a: &mut MuxEnd,
+    b: &mut MuxEnd,
+    step: &Step,
+) -> Result<DuoAnswer, OutOfMemory>
     requires built { is_built_step step.now ≡ true }
     requires free_a { is_offer_step step.now ≡ true → a.old.channel ≡ None }
     requires free_b { is_offer_step step.now ≡ true → b.old.channel ≡ None }

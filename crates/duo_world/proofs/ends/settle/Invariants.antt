@@ -1,6 +1,6 @@
-use Rattle.std.proofs.Common.{◌≡◌, ℕ, List, length}
+use Rattle.std.proofs.Common.{ℕ, List, length}
 use Rattle.mux_items.specs.Items.{Item}
-use Rattle.mux_run.specs.Run.{Half, Ways, settled}
+use Rattle.mux_run.specs.Run.{Half, Ways}
 use Rattle.duo_world.specs.Settling.{IsOnWay}
 use Rattle.duo_world.proofs.Going.{GoesOn}
 use Rattle.duo_world.proofs.ends.settle.Given as goal

@@ -1,9 +1,8 @@
-use Rattle.std.proofs.Common.{◌≡◌, ◌∙◌, sym, ap, subst, refl, false, ◌++◌, ◌∷◌, []}
+use Rattle.std.proofs.Common.{◌∙◌, sym, ap, subst, refl, false, ◌++◌, ◌∷◌, []}
 use Rattle.mux_run.specs.Built.{AreBuilt}
-use Rattle.mux_run.specs.Run.{run}
-use Rattle.duo_world.specs.Holding.{DuoState, IsHeld}
+use Rattle.duo_world.specs.Holding.{DuoState}
 use Rattle.duo_world.specs.Stepping.{IsStepped}
-use Rattle.duo_world.proofs.Worlds.{free_a, free_b, last_built, ready_for, stepped}
+use Rattle.duo_world.proofs.Worlds.{free_a, free_b, ready_for, stepped}
 use Rattle.duo_world.proofs.duo.Duo.try_step.Goals as goal
 
 pub answer-requires-clause-free_a : goal.answer-requires-clause-free_a
@@ -19,7 +18,7 @@ invariant_of-self-2 c = λ works.
     let held = c.self.invariant (ap (λ d. d.failed) c.self.view_is ∙ c.requires.works) in
     let built : AreBuilt (c.self.inside.steps ++ c.args.step ∷ []) = subst (λ d. AreBuilt (d.steps ++ c.args.step ∷ [])) (sym c.self.view_is) c.requires.built in
     (stepped _ _ c.args.step c.in_ok-reply.reply held built refl c.in_ok-push.ensures.ok refl
-      (c.in_ok-reply.ensures _ _ (ready_for _ c.args.step held built))).1
+    (c.in_ok-reply.ensures _ _ (ready_for _ c.args.step held built))).1
 
 pub returns-clause-ok : goal.returns-clause-ok
 returns-clause-ok c =
@@ -33,5 +32,5 @@ returns-clause-ok c =
       failed = false;
     } in
     subst (λ d. IsStepped d new c.args.step c.in_ok-reply.reply) c.self.view_is
-      (stepped _ new c.args.step c.in_ok-reply.reply held built refl c.in_ok-push.ensures.ok refl
-        (c.in_ok-reply.ensures _ _ (ready_for _ c.args.step held built))).0
+    (stepped _ new c.args.step c.in_ok-reply.reply held built refl c.in_ok-push.ensures.ok refl
+    (c.in_ok-reply.ensures _ _ (ready_for _ c.args.step held built))).0
