@@ -1,0 +1,7 @@
+pub mod Heads
+pub mod Frames
+pub mod Front
+pub mod Hello
+pub mod Reading
+pub mod Codec
+pub mod Spelling

@@ -1,0 +1,40 @@
+-- A frame's text, by its parts.
+use Rattle.std.proofs.Common.{◌≡◌, ℕ, ◌+◌, ◌≤◌, ◌<◌, true, false, Bool, cond, List, [], ◌∷◌, ◌++◌, length, refl, sym, ap, ◌∙◌, arith, append_assoc}
+use Rattle.std.proofs.lemmas.Bool.{and_parts, leb-true}
+use Rattle.std.proofs.lemmas.List.{append-nil}
+use Rattle.wire_base.specs.declared.frame.Version.{Version}
+use Rattle.wire_base.specs.declared.frame.Version.TheVariants as version
+use Rattle.wire_base.specs.declared.frame.Frame.{Frame}
+use Rattle.frame_text.specs.Codec.{is_packed, elements}
+use Rattle.frame_text.specs.Heads.{bin_head}
+use Rattle.frame_text.specs.Frames.{text, packed_text, fits, payload_text}
+use Rattle.frame_pack.specs.Parts.{front_text}
+use Rattle.frame_pack.proofs.Extending.{extends-same, extends-after}
+
+text-packed : (v : Version) (f : Frame) → is_packed v ≡ true → text v f ≡ packed_text (elements v) f
+text-packed version.One f e = absurd cc
+text-packed version.Two f e = refl
+text-packed version.Three f e = refl
+
+empty-text : (n : ℕ) (f : Frame) (bytes : List ℕ) → payload_text f.payload ≡ bytes → length bytes ≡ 0 → packed_text n f ≡ front_text n f
+empty-text n f [] p e = rw p (append-nil (front_text n f))
+empty-text n f (b ∷ bytes) p e = absurd (omega (arith, e))
+
+full-text : (n : ℕ) (f : Frame) (bytes : List ℕ) → payload_text f.payload ≡ bytes → 0 < length bytes → packed_text n f ≡ front_text (n + 1) f ++ (bin_head (length bytes) ++ bytes)
+full-text n f [] p e = absurd (omega (arith, e))
+full-text n f (b ∷ bytes) p e = rw p refl
+
+pub text-empty : (v : Version) (f : Frame) (n : ℕ) → is_packed v ≡ true → n ≡ elements v → length (payload_text f.payload) ≡ 0 → front_text n f ≡ text v f
+text-empty v f n p e h = rw e (sym (text-packed v f p ∙ empty-text (elements v) f (payload_text f.payload) refl h))
+
+pub text-full : (v : Version) (f : Frame) (n : ℕ) → is_packed v ≡ true → n ≡ elements v → 0 < length (payload_text f.payload) → (front_text (n + 1) f ++ bin_head (length (payload_text f.payload))) ++ payload_text f.payload ≡ text v f
+text-full v f n p e h =
+    rw e (append_assoc (front_text (elements v + 1) f) (bin_head (length (payload_text f.payload))) (payload_text f.payload)
+    ∙ sym (text-packed v f p ∙ full-text (elements v) f (payload_text f.payload) refl h))
+
+pub fits-length : (v : Version) (f : Frame) → is_packed v ≡ true → fits v f ≡ true → length (payload_text f.payload) ≤ 0x100000
+fits-length version.One f p e = absurd cc
+fits-length version.Two f p e = leb-true (length (payload_text f.payload)) 0x100000 (and_parts _ _ e).1
+fits-length version.Three f p e = leb-true (length (payload_text f.payload)) 0x100000 (and_parts _ _ e).1
+
+pub ruleset writing = (text-empty, text-full, fits-length, extends-same, extends-after, append_assoc)

@@ -1,0 +1,4 @@
+pub mod Steps
+pub mod Extending
+pub mod Lengths
+pub mod FrameTexts

@@ -1,0 +1,12 @@
+//! Frames of versions 2 and 3, which are arrays of MessagePack tokens.
+#![tactic(auto)]
+
+mod codec;
+mod fits;
+mod heads;
+mod payload;
+mod reading;
+mod tokens;
+mod writing;
+
+pub use codec::PackCodec;

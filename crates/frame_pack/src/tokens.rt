@@ -1,0 +1,197 @@
+//! Tokens of one sort.
+
+ghost use Rattle.frame_text.specs.Reading.{Gives, a_bin, a_number, a_str, an_array, code_in, count_in, head_at, id_in, inner_at, is_array, is_bin, is_number, is_str, last_in, number_in, only, origin_in, token_at};
+ghost use Rattle.std.specs.Prelude.{◌≡◌, ◌+◌, ◌<◌, ◌^◌, length, Some};
+ghost use Rattle.wire_base.specs.Head.{kind_of};
+ghost use Rattle.wire_base.specs.declared.reason.Reason.TheVariants.{BadCode, BadId, BadSource};
+
+use frame_text::{DecodeError, Fault};
+use wire_base::{Code, HeadStep, Origin, Reason, TokenHead, head};
+
+/// An id, a window or a count is below this.
+const NUMBER_LIMIT: i128 = 0x8000_0000_0000_0000;
+
+#[tactic(auto, unfolding(wire_base::specs::Head::lettered))]
+fn begins_number(first: u8) -> bool
+    ensures { result ≡ is_number (kind_of first) }
+{
+    matches!(first, 0x00..=0x7f | 0xcc..=0xd3 | 0xe0..=0xff)
+}
+
+#[tactic(auto, unfolding(wire_base::specs::Head::lettered))]
+fn begins_str(first: u8) -> bool
+    ensures { result ≡ is_str (kind_of first) }
+{
+    matches!(first, 0xa0..=0xbf | 0xd9..=0xdb)
+}
+
+#[tactic(auto, unfolding(wire_base::specs::Head::lettered))]
+fn begins_bin(first: u8) -> bool
+    ensures { result ≡ is_bin (kind_of first) }
+{
+    matches!(first, 0xc4..=0xc6)
+}
+
+#[tactic(auto, unfolding(wire_base::specs::Head::lettered))]
+fn begins_array(first: u8) -> bool
+    ensures { result ≡ is_array (kind_of first) }
+{
+    matches!(first, 0x90..=0x9f | 0xdc | 0xdd)
+}
+
+pub fn breaks(bytes: &[u8], reason: Reason) -> DecodeError
+    ensures { result ≡ DecodeError.Fault (Fault.Breaks (length bytes.now) reason) }
+{
+    DecodeError::Fault(Fault::Breaks(bytes.len(), reason))
+}
+
+fn number_said(token: TokenHead) -> Option<i128>
+    ensures { result ≡ number_in token }
+{
+    match token {
+        TokenHead::Whole(whole) => Some(whole.get()),
+        _ => None,
+    }
+}
+
+#[tactic(auto, unfolding(frame_text::specs::Reading::head_at))]
+fn number(reason: Reason, bytes: &[u8]) -> Result<(i128, &[u8]), DecodeError>
+    ensures { Gives (λ x. (x.0, x.1.now)) result (head_at a_number reason bytes.now) }
+{
+    match head(bytes) {
+        HeadStep::Got(token, n) => match number_said(token) {
+            Some(number) => Ok((number, &bytes[n..])),
+            None => Err(breaks(bytes, reason)),
+        },
+        HeadStep::Refused(refused) => Err(breaks(bytes, refused)),
+        HeadStep::Short => match bytes {
+            [first, ..] if !begins_number(*first) => Err(breaks(bytes, reason)),
+            _ => Err(DecodeError::Fault(Fault::Ends)),
+        },
+    }
+}
+
+#[tactic(auto, unfolding(frame_text::specs::Reading::head_at))]
+pub fn str_head(reason: Reason, bytes: &[u8]) -> Result<(u32, &[u8]), DecodeError>
+    ensures { Gives (λ x. (x.0, x.1.now)) result (head_at a_str reason bytes.now) }
+{
+    match head(bytes) {
+        HeadStep::Got(TokenHead::Str(len), n) => Ok((len, &bytes[n..])),
+        HeadStep::Got(_, _) => Err(breaks(bytes, reason)),
+        HeadStep::Refused(refused) => Err(breaks(bytes, refused)),
+        HeadStep::Short => match bytes {
+            [first, ..] if !begins_str(*first) => Err(breaks(bytes, reason)),
+            _ => Err(DecodeError::Fault(Fault::Ends)),
+        },
+    }
+}
+
+#[tactic(auto, unfolding(frame_text::specs::Reading::head_at))]
+pub fn bin_head(reason: Reason, bytes: &[u8]) -> Result<(u32, &[u8]), DecodeError>
+    ensures { Gives (λ x. (x.0, x.1.now)) result (head_at a_bin reason bytes.now) }
+{
+    match head(bytes) {
+        HeadStep::Got(TokenHead::Bin(len), n) => Ok((len, &bytes[n..])),
+        HeadStep::Got(_, _) => Err(breaks(bytes, reason)),
+        HeadStep::Refused(refused) => Err(breaks(bytes, refused)),
+        HeadStep::Short => match bytes {
+            [first, ..] if !begins_bin(*first) => Err(breaks(bytes, reason)),
+            _ => Err(DecodeError::Fault(Fault::Ends)),
+        },
+    }
+}
+
+#[tactic(auto, unfolding(frame_text::specs::Reading::head_at))]
+fn array_head(reason: Reason, bytes: &[u8]) -> Result<(u32, &[u8]), DecodeError>
+    ensures { Gives (λ x. (x.0, x.1.now)) result (head_at an_array reason bytes.now) }
+{
+    match head(bytes) {
+        HeadStep::Got(TokenHead::Array(count), n) => Ok((count, &bytes[n..])),
+        HeadStep::Got(_, _) => Err(breaks(bytes, reason)),
+        HeadStep::Refused(refused) => Err(breaks(bytes, refused)),
+        HeadStep::Short => match bytes {
+            [first, ..] if !begins_array(*first) => Err(breaks(bytes, reason)),
+            _ => Err(DecodeError::Fault(Fault::Ends)),
+        },
+    }
+}
+
+/// An array whose last element may be left out, and whether it has that one.
+#[tactic(auto, unfolding(frame_text::specs::Reading::token_at))]
+pub fn open_array(least: u32, reason: Reason, bytes: &[u8]) -> Result<(bool, &[u8]), DecodeError>
+    requires { least < 8 }
+    ensures { Gives (λ x. (x.0, x.1.now)) result (token_at an_array (last_in least) reason bytes.now) }
+{
+    let (count, rest) = array_head(reason, bytes)?;
+    if count == least {
+        Ok((false, rest))
+    } else if count == least + 1 {
+        Ok((true, rest))
+    } else {
+        Err(breaks(bytes, reason))
+    }
+}
+
+#[tactic(auto, unfolding(frame_text::specs::Reading::token_at))]
+pub fn array_of(elements: u32, reason: Reason, bytes: &[u8]) -> Result<(u32, &[u8]), DecodeError>
+    ensures { Gives (λ x. (x.0, x.1.now)) result (token_at an_array (only elements) reason bytes.now) }
+{
+    let (count, rest) = array_head(reason, bytes)?;
+    if count == elements {
+        Ok((count, rest))
+    } else {
+        Err(breaks(bytes, reason))
+    }
+}
+
+#[tactic(auto, unfolding(frame_text::specs::Reading::token_at))]
+pub fn code(bytes: &[u8]) -> Result<(Code, &[u8]), DecodeError>
+    ensures { Gives (λ x. (x.0, x.1.now)) result (token_at a_number code_in BadCode bytes.now) }
+{
+    let (number, rest) = number(Reason::BadCode, bytes)?;
+    match number {
+        0 => Ok((Code::Offer, rest)),
+        1 => Ok((Code::OfferAccepted, rest)),
+        2 => Ok((Code::Content, rest)),
+        3 => Ok((Code::ContentWritingCompleted, rest)),
+        4 => Ok((Code::ChannelTerminated, rest)),
+        5 => Ok((Code::ContentProcessed, rest)),
+        _ => Err(breaks(bytes, Reason::BadCode)),
+    }
+}
+
+#[tactic(auto, unfolding(frame_text::specs::Reading::token_at))]
+pub fn id(bytes: &[u8]) -> Result<(u64, &[u8]), DecodeError>
+    ensures { Gives (λ x. (x.0, x.1.now)) result (token_at a_number id_in BadId bytes.now) }
+{
+    let (number, rest) = number(Reason::BadId, bytes)?;
+    if 0 < number && number < NUMBER_LIMIT {
+        Ok((number as u64, rest))
+    } else {
+        Err(breaks(bytes, Reason::BadId))
+    }
+}
+
+#[tactic(auto, unfolding(frame_text::specs::Reading::token_at))]
+pub fn source(bytes: &[u8]) -> Result<(Origin, &[u8]), DecodeError>
+    ensures { Gives (λ x. (x.0, x.1.now)) result (token_at a_number origin_in BadSource bytes.now) }
+{
+    let (number, rest) = number(Reason::BadSource, bytes)?;
+    match number {
+        1 => Ok((Origin::Sender, rest)),
+        -1 => Ok((Origin::Receiver, rest)),
+        _ => Err(breaks(bytes, Reason::BadSource)),
+    }
+}
+
+#[tactic(auto, unfolding(frame_text::specs::Reading::token_at))]
+pub fn count(reason: Reason, bytes: &[u8]) -> Result<(u64, &[u8]), DecodeError>
+    ensures { Gives (λ x. (x.0, x.1.now)) result (token_at a_number count_in reason bytes.now) }
+{
+    let (number, rest) = number(reason, bytes)?;
+    if 0 <= number && number < NUMBER_LIMIT {
+        Ok((number as u64, rest))
+    } else {
+        Err(breaks(bytes, reason))
+    }
+}

@@ -1,0 +1,115 @@
+//! Shortest spellings, written.
+
+ghost use Rattle.frame_pack.specs.Extends.{Extends};
+ghost use Rattle.frame_pack.specs.Parts.{front_text};
+ghost use Rattle.frame_text.specs.Codec.{is_packed};
+ghost use Rattle.frame_text.specs.Frames.{code_number, fits, origin_text, payload_text, str_text, text};
+ghost use Rattle.frame_text.specs.Heads.{array_head, bin_head, unsigned_text};
+ghost use Rattle.std.specs.Prelude.{◌≡◌, ◌<◌, ◌≤◌, ◌^◌, ◌++◌, length, true, OnOk, OnErr};
+
+use crate::fits::payload_len;
+use crate::heads::{push_array_head, push_bin_head, push_str_head, push_unsigned};
+use crate::reading::least_elements;
+use wire_base::{Code, Frame, Origin, OutOfMemory, Payload, Text, Version};
+
+fn number_of(code: Code) -> u64
+    ensures { result ≡ code_number code }
+{
+    match code {
+        Code::Offer => 0,
+        Code::OfferAccepted => 1,
+        Code::Content => 2,
+        Code::ContentWritingCompleted => 3,
+        Code::ChannelTerminated => 4,
+        Code::ContentProcessed => 5,
+    }
+}
+
+#[tactic(auto, using(crate::proofs::Extending::extending))]
+fn push_origin(origin: Origin, out: &mut Vec<u8>) -> Result<(), OutOfMemory>
+    ensures ok { OnOk result (out.new.items ≡ out.old.items ++ origin_text origin) }
+    ensures err { OnErr result (Extends out.old.items out.new.items) }
+{
+    match origin {
+        Origin::Sender => out.push(0x01)?,
+        Origin::Receiver => out.push(0xff)?,
+        Origin::ByParity => {}
+    }
+    Ok(())
+}
+
+#[tactic(auto, using(crate::proofs::Extending::extending))]
+fn push_str(text: &Text, out: &mut Vec<u8>) -> Result<(), OutOfMemory>
+    requires { length text.now < 2 ^ 32 }
+    ensures ok { OnOk result (out.new.items ≡ out.old.items ++ str_text text.now) }
+    ensures err { OnErr result (Extends out.old.items out.new.items) }
+{
+    let bytes = text.as_str().as_bytes();
+    push_str_head(bytes.len(), out)?;
+    out.extend_from_slice(bytes)?;
+    Ok(())
+}
+
+#[tactic(auto, using(crate::proofs::Extending::extending))]
+fn push_payload(payload: &Payload, out: &mut Vec<u8>) -> Result<(), OutOfMemory>
+    requires { length (payload_text payload.now) < 2 ^ 32 }
+    ensures ok { OnOk result (out.new.items ≡ out.old.items ++ payload_text payload.now) }
+    ensures err { OnErr result (Extends out.old.items out.new.items) }
+{
+    match payload {
+        Payload::Offer(name, None) => {
+            push_array_head(1, out)?;
+            push_str(name, out)
+        }
+        Payload::Offer(name, Some(window)) => {
+            push_array_head(2, out)?;
+            push_str(name, out)?;
+            push_unsigned(*window, out)
+        }
+        Payload::Accepted(None) => push_array_head(0, out),
+        Payload::Accepted(Some(window)) => {
+            push_array_head(1, out)?;
+            push_unsigned(*window, out)
+        }
+        Payload::Content(bytes) => {
+            out.extend_from_slice(bytes.as_bytes())?;
+            Ok(())
+        }
+        Payload::Nothing => Ok(()),
+        Payload::Processed(count) => {
+            push_array_head(1, out)?;
+            push_unsigned(*count, out)
+        }
+    }
+}
+
+/// All of a frame but its payload.
+#[tactic(auto, using(crate::proofs::Extending::extending))]
+fn push_front(elements: u8, frame: &Frame, out: &mut Vec<u8>) -> Result<(), OutOfMemory>
+    requires { elements < 16 }
+    ensures ok { OnOk result (out.new.items ≡ out.old.items ++ front_text elements frame.now) }
+    ensures err { OnErr result (Extends out.old.items out.new.items) }
+{
+    push_array_head(elements, out)?;
+    push_unsigned(number_of(frame.code), out)?;
+    push_unsigned(frame.id, out)?;
+    push_origin(frame.origin, out)
+}
+
+/// The shortest spelling of a frame of version 2 or 3.
+#[tactic(auto, using(crate::proofs::FrameTexts::writing))]
+pub fn push_frame(version: Version, frame: &Frame, out: &mut Vec<u8>) -> Result<(), OutOfMemory>
+    requires packed { is_packed version ≡ true }
+    requires fits { fits version frame.now ≡ true }
+    ensures ok { OnOk result (out.new.items ≡ out.old.items ++ text version frame.now) }
+    ensures err { OnErr result (Extends out.old.items out.new.items) }
+{
+    let elements = least_elements(version) as u8;
+    let len = payload_len(&frame.payload);
+    if len == 0 {
+        return push_front(elements, frame, out);
+    }
+    push_front(elements + 1, frame, out)?;
+    push_bin_head(len as usize, out)?;
+    push_payload(&frame.payload, out)
+}

@@ -1,0 +1,30 @@
+//! What ends a reading.
+
+ghost use Rattle.frame_text.specs.declared.fault.DecodeError.TheVariants.{Memory};
+ghost use Rattle.std.specs.Prelude.{◌≡◌};
+
+use wire_base::{OutOfMemory, Reason};
+
+/// What ends a reading before its end.
+#[derive(Clone, Copy, Debug, PartialEq, Eq)]
+pub enum Fault {
+    /// The bytes end inside a token.
+    Ends,
+    /// A token that begins so many bytes before their end breaks a rule.
+    Breaks(usize, Reason),
+}
+
+/// Why a reader of the code gave up.
+#[derive(Clone, Copy, Debug, PartialEq, Eq)]
+pub enum DecodeError {
+    Memory,
+    Fault(Fault),
+}
+
+impl From<OutOfMemory> for DecodeError {
+    ghost from_gives = { λ _ e. e ≡ Memory };
+
+    fn from(_: OutOfMemory) -> DecodeError {
+        DecodeError::Memory
+    }
+}

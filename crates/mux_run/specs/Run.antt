@@ -1,0 +1,191 @@
+-- The run of a list of steps: what happened at each of two joined ends.
+use Rattle.std.specs.Prelude.{ℕ, ◌+◌, ◌-◌, min, List, [], ◌∷◌, ◌++◌, length, take, drop, Bool, true, false, not, ◌&&◌, nat_lt, nat_le, if◌then◌else◌, Option, Some, None}
+use Rattle.std.specs.Str.{bytes_eq}
+use Rattle.wire_base.specs.declared.frame.Version.{Version}
+use Rattle.wire_base.specs.declared.reason.Reason.TheVariants as reason
+use Rattle.wire_base.specs.declared.state.Cause.TheVariants as cause
+use Rattle.frame_text.specs.Hello.{hello}
+use Rattle.mux_items.specs.declared.party.Party.{Party}
+use Rattle.mux_items.specs.declared.party.Party.TheVariants.{Odd, Even}
+use Rattle.mux_items.specs.Bodies.{ChannelFrame, flip, frame_text, frame_texts}
+use Rattle.mux_items.specs.Items.{Item, Hello, DidOffer, DidAccept, DidWrite, DidRead, DidComplete, DidTerminate, End, is_running}
+use Rattle.mux_items.specs.Kept.{next_key}
+use Rattle.mux_items.specs.Due.{sent, got}
+use Rattle.mux_items.specs.Refusals.{is_ready, most_bytes, offer_refusal, accept_refusal, write_refusal, read_refusal, complete_refusal, terminate_refusal}
+use Rattle.mux_items.specs.Applying.{apply_frame, place_at}
+use Rattle.wire_base.specs.declared.refusal.Refusal.{Refusal}
+use Rattle.mux_run.specs.declared.steps.Side.{Side}
+use Rattle.mux_run.specs.declared.steps.Side.TheVariants.{A, B}
+use Rattle.mux_run.specs.declared.steps.Call.{Call}
+use Rattle.mux_run.specs.declared.steps.Call.TheVariants as call
+use Rattle.mux_run.specs.declared.steps.Step.{Step}
+use Rattle.mux_run.specs.declared.steps.Step.TheVariants as step
+
+-- one side: its items, newest first, and how many of the other side's bytes were given to it
+pub record Half : Type 0 where
+  pub items : List Item
+  pub delivered : ℕ
+
+pub record World : Type 0 where
+  pub a : Half
+  pub b : Half
+
+-- the version, and the nonce of each side
+pub record Terms : Type 0 where
+  pub version : Version
+  pub nonce_a : List ℕ
+  pub nonce_b : List ℕ
+
+-- the same terms as the side X of a pair X, Y sees them
+pub record Ways : Type 0 where
+  pub version : Version
+  pub own : List ℕ
+  pub peer : List ℕ
+
+abbrev pub ways_a : Terms → Ways
+ways_a terms = record { version = terms.version; own = terms.nonce_a; peer = terms.nonce_b }
+
+abbrev pub ways_b : Terms → Ways
+ways_b terms = record { version = terms.version; own = terms.nonce_b; peer = terms.nonce_a }
+
+abbrev pub turned : Ways → Ways
+turned w = record { version = w.version; own = w.peer; peer = w.own }
+
+-- all bytes that a side with this nonce has emitted: its handshake, and the texts of all frames that were due
+abbrev pub out : Version → (nonce : List ℕ) → List Item → List ℕ
+out v nonce items = hello v nonce ++ frame_texts v (sent v items)
+
+-- how long the peer's handshake is
+abbrev pub greeting_size : Ways → ℕ
+greeting_size w = length (hello w.version w.peer)
+
+-- the bytes on their way to x, whose peer y is
+abbrev pub in_flight : Ways → Half → Half → List ℕ
+in_flight w x y = drop x.delivered (out w.version w.peer y.items)
+
+-- the frames whose texts lie whole in the first n bytes of all their texts
+abbrev pub whole_frames : Version → ℕ → List ChannelFrame → List ChannelFrame
+whole_frames v n [] = []
+whole_frames v n (f ∷ fs) = if nat_le (length (frame_text v f)) n then f ∷ whole_frames v (n - length (frame_text v f)) fs else []
+
+-- the side with the greater nonce, at the first byte that differs, is Odd
+abbrev pub is_greater : List ℕ → List ℕ → Bool
+is_greater [] other = false
+is_greater (x ∷ xs) [] = true
+is_greater (x ∷ xs) (y ∷ ys) = if nat_lt y x then true else if nat_lt x y then false else is_greater xs ys
+
+abbrev pub party_by : (own peer : List ℕ) → Party
+party_by own peer = if is_greater own peer then Odd else Even
+
+-- the item of the peer's whole handshake: nonces must differ
+abbrev pub greet : Ways → Item
+greet w =
+    if bytes_eq w.own w.peer then End (cause.Refused (place_at (greeting_size w - length w.peer)) reason.SameNonce)
+    else Hello (party_by w.own w.peer)
+
+-- the handshake is applied once it is whole
+abbrev pub greeted : Ways → (delivered : ℕ) → List Item → List Item
+greeted w delivered items =
+    if is_running items && not (is_ready w.version items) && nat_le (greeting_size w) delivered then greet w ∷ items else items
+
+-- one frame after the other, the first of which stands at this place, while the end runs
+abbrev pub apply_frames : Version → (place : ℕ) → List ChannelFrame → List Item → List Item
+apply_frames v place [] items = items
+apply_frames v place (f ∷ fs) items =
+    if is_running items
+    then apply_frames v (place + length (frame_text v f)) fs (apply_frame v place (flip f).key f.body items)
+    else items
+
+-- the whole frames of the delivered bytes that weren't applied yet
+abbrev pub next_frames : Ways → (delivered : ℕ) → (applied : ℕ) → Half → List ChannelFrame
+next_frames w delivered applied y = drop applied (whole_frames w.version (delivered - greeting_size w) (sent w.version y.items))
+
+-- the place of the frame after so many of y's
+abbrev pub place_after : Ways → (applied : ℕ) → Half → ℕ
+place_after w applied y = greeting_size w + length (frame_texts w.version (take applied (sent w.version y.items)))
+
+-- x applies what is whole of the first so many bytes of y
+abbrev pub settled : Ways → (delivered : ℕ) → List Item → Half → Half
+settled w delivered items y =
+    let after = greeted w delivered items in
+    record {
+      items = if is_ready w.version after
+          then apply_frames w.version (place_after w (length (got after)) y) (next_frames w delivered (length (got after)) y) after
+          else after;
+      delivered = delivered;
+    }
+
+-- why a call is refused, if it is
+abbrev pub call_refusal : Version → Call → List Item → Option Refusal
+call_refusal v (call.Offer name size) items = offer_refusal v name size items
+call_refusal v (call.Accept c size) items = accept_refusal v c size items
+call_refusal v (call.Write c bytes) items = write_refusal v c bytes items
+call_refusal v (call.Read c max) items = read_refusal v c items
+call_refusal v (call.Complete c) items = complete_refusal v c items
+call_refusal v (call.Terminate c) items = terminate_refusal v c items
+
+-- the item of an accepted call
+abbrev pub item_of_call : Call → List Item → Item
+item_of_call (call.Offer name size) items = DidOffer (next_key items) name size
+item_of_call (call.Accept c size) items = DidAccept c size
+item_of_call (call.Write c bytes) items = DidWrite c bytes
+item_of_call (call.Read c max) items = DidRead c max
+item_of_call (call.Complete c) items = DidComplete c
+item_of_call (call.Terminate c) items = DidTerminate c
+
+abbrev pub unless_refused : Option Refusal → Item → List Item → List Item
+unless_refused (Some refusal) item items = items
+unless_refused None item items = item ∷ items
+
+-- a refused call changes nothing
+abbrev pub called : Version → Call → List Item → List Item
+called v c items = unless_refused (call_refusal v c items) (item_of_call c items) items
+
+-- how many bytes a delivery of at most n adds
+abbrev pub added : Ways → (n : ℕ) → Half → Half → ℕ
+added w n x y = min n (length (in_flight w x y))
+
+-- a delivery that would pass the most bytes that an end is fed
+abbrev pub is_spent : Ways → (n : ℕ) → Half → Half → Bool
+is_spent w n x y = nat_lt most_bytes (x.delivered + added w n x y)
+
+-- what a delivery makes of the side x that it goes to
+abbrev pub delivered_to : Ways → (n : ℕ) → Half → Half → Half
+delivered_to w n x y =
+    if not (is_running x.items) then x
+    else if is_spent w n x y then record { items = End cause.Spent ∷ x.items; delivered = x.delivered }
+    else settled w (x.delivered + added w n x y) x.items y
+
+abbrev pub ended_half : Half → Half
+ended_half x = if is_running x.items then record { items = End cause.InputEnded ∷ x.items; delivered = x.delivered } else x
+
+-- what a step makes of its side x
+abbrev pub half_after : Ways → Step → Half → Half → Half
+half_after w (step.Call side c) x y = settled w x.delivered (called w.version c x.items) y
+half_after w (step.Deliver side n) x y = delivered_to w n x y
+half_after w (step.End side) x y = ended_half x
+
+abbrev pub side_of : Step → Side
+side_of (step.Call side c) = side
+side_of (step.Deliver side n) = side
+side_of (step.End side) = side
+
+abbrev pub happens_at : Terms → Side → Step → World → World
+happens_at terms A s w = record { a = half_after (ways_a terms) s w.a w.b; b = w.b }
+happens_at terms B s w = record { a = w.a; b = half_after (ways_b terms) s w.b w.a }
+
+abbrev pub happens : Terms → Step → World → World
+happens terms s w = happens_at terms (side_of s) s w
+
+abbrev pub fresh : Half
+fresh = record { items = []; delivered = 0 }
+
+abbrev pub start : World
+start = record { a = fresh; b = fresh }
+
+abbrev pub run_from : Terms → World → List Step → World
+run_from terms w [] = w
+run_from terms w (s ∷ steps) = run_from terms (happens terms s w) steps
+
+abbrev pub run : Terms → List Step → World
+run terms steps = run_from terms start steps
