@@ -24,7 +24,10 @@ use crate::step::MuxStep;
 use mux_items::{ChannelKey, ChannelView, MuxEvent, Tally};
 use std::alloc::Global;
 use std::marker::Model;
-use wire_base::{CallFault, Cause, EndState, Frame, FrameStep, Origin, OutOfMemory, Payload, Place, Reason, Refusal, Text, Version};
+use wire_base::{
+    CallFault, Cause, EndState, Frame, FrameStep, Origin, OutOfMemory, Payload, Place, Reason,
+    Refusal, Text, Version,
+};
 
 /// The most bytes of a channel's name.
 const LONGEST_NAME: usize = 1024;
@@ -176,7 +179,12 @@ impl MuxEnd {
     }
 
     /// Moves at most `max` unread bytes of a channel to the end of `out`, and answers their number.
-    pub fn read(&mut self, key: ChannelKey, max: usize, out: &mut Vec<u8>) -> Result<usize, CallFault>
+    pub fn read(
+        &mut self,
+        key: ChannelKey,
+        max: usize,
+        out: &mut Vec<u8>,
+    ) -> Result<usize, CallFault>
         ensures answers { (items : List Item) (at : ℕ) (rest : List ℕ) → MuxStands self.old items at rest →
             CallAnswers self.old self.new items at rest (read_refusal self.old.version key items)
             (DidRead key max) (λ n. n ≡ min max (length (unread self.old.version key items))) result }
@@ -336,7 +344,12 @@ impl MuxEnd {
         Ok(())
     }
 
-    fn offer_channel(&mut self, key: ChannelKey, name: &Text, window: u32) -> Result<(), OutOfMemory>
+    fn offer_channel(
+        &mut self,
+        key: ChannelKey,
+        name: &Text,
+        window: u32,
+    ) -> Result<(), OutOfMemory>
         requires id_above { 0 < key.id }
         requires id_below { key.id < 0x8000000000000000 }
         requires own { key.own ≡ true }
@@ -345,7 +358,14 @@ impl MuxEnd {
         ensures end { OnOk result (self.new ≡ offered_end key name.now window self.old) }
         ensures terms { KeepsTerms self.old self.new }
     {
-        push_offer(self.alloc, self.version, key, name, window, &mut self.output)?;
+        push_offer(
+            self.alloc,
+            self.version,
+            key,
+            name,
+            window,
+            &mut self.output,
+        )?;
         self.channel = Some(Channel::offered(self.alloc, key, window));
         Ok(())
     }

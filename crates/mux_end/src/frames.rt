@@ -97,7 +97,11 @@ pub fn push_accepted(
     ensures { OnOk result (out.new.items ≡ out.old.items ++ frame_text version (frame_on key (OfferAccepted (Some window)))) }
 {
     let payload = Payload::Accepted(Some(u64::from(window)));
-    push_frame(version, &frame(version, key, Code::OfferAccepted, payload), out)
+    push_frame(
+        version,
+        &frame(version, key, Code::OfferAccepted, payload),
+        out,
+    )
 }
 
 /// Writes an acknowledgement at the end of the output.
@@ -115,7 +119,11 @@ pub fn push_processed(
     ensures { OnOk result (out.new.items ≡ out.old.items ++ frame_text version (frame_on key (ContentProcessed count))) }
 {
     let payload = Payload::Processed(count);
-    push_frame(version, &frame(version, key, Code::ContentProcessed, payload), out)
+    push_frame(
+        version,
+        &frame(version, key, Code::ContentProcessed, payload),
+        out,
+    )
 }
 
 #[tactic(auto, using(crate::proofs::Fits::frames_fit))]
