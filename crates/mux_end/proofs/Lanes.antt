@@ -1,24 +1,22 @@
 -- What one more item makes of the one channel of an end of version 3, and the frames that it makes.
-use Rattle.std.proofs.Common.{◌≡◌, ◌≤◌, ◌<◌, ℕ, ◌+◌, ◌-◌, min, List, [], ◌∷◌, ◌++◌, length, take, drop, Bool, true, false, Option, Some, None, refl, sym, ◌∙◌, ap, subst, arith, inl, inr, length-append, length-drop}
+use Rattle.std.proofs.Common.{◌≡◌, ℕ, ◌+◌, min, List, [], ◌∷◌, ◌++◌, length, take, Bool, true, false, Option, Some, None, refl, sym, ◌∙◌, ap, subst, arith}
 use Rattle.std.specs.Prelude.{not, ◌&&◌, ◌==◌, if◌then◌else◌, is_none}
 use Rattle.std.specs.List.{list_all}
 use Rattle.std.proofs.lemmas.List.{append-nil, drop_all, length-take}
-use Rattle.std.proofs.lemmas.Bool.{cases_Bool, false≢true}
 use Rattle.wire_base.specs.declared.frame.Version.{Version}
 use Rattle.wire_base.specs.declared.frame.Version.TheVariants as version
 use Rattle.wire_base.specs.declared.state.Cause.{Cause}
-use Rattle.wire_base.specs.declared.state.EndState.{EndState}
 use Rattle.mux_items.specs.declared.channel.ChannelKey.{ChannelKey}
-use Rattle.mux_items.specs.Bodies.{FrameBody, Offer, OfferAccepted, Content, ContentWritingCompleted, ChannelTerminated, ContentProcessed, ChannelFrame, frame_on, same_key, window_of}
+use Rattle.mux_items.specs.Bodies.{Offer, OfferAccepted, Content, ContentWritingCompleted, ChannelTerminated, ContentProcessed, ChannelFrame, frame_on, window_of}
 use Rattle.mux_items.specs.Items.{Item, DidOffer, DidAccept, DidWrite, DidRead, Got, End, ended, is_running}
-use Rattle.mux_items.specs.Lists.{written, window, emitted, termination_emitted, heeds, taken, is_accepted, acknowledged, granted, is_dropped, unread_count, handed, unread, is_live, completion_emitted}
+use Rattle.mux_items.specs.Lists.{written, window, emitted, termination_emitted, taken, is_accepted, acknowledged, granted, is_dropped, unread_count, handed, is_live, completion_emitted}
 use Rattle.mux_items.specs.Kept.{keys, next_key}
-use Rattle.mux_items.specs.Due.{content_frames, span, newly_emitted, completes, terminates, due_on, acknowledgement, due}
+use Rattle.mux_items.specs.Due.{content_frames, span, newly_emitted, due_on, due}
 use Rattle.mux_items.specs.Applying.{Allowed}
 use Rattle.mux_end.specs.Lane.{Lane, lane_of, lane_of_keys, channel_of, offered_lane, heard_lane, sendable, sendable_bytes, with_emitted, accepted_lane, answered_lane, written_lane, taken_lane, credited_lane, read_count, read_lane}
 use Rattle.mux_end.specs.Stands.{is_built_item, state_by, state_of}
 use Rattle.mux_end.specs.Tests.{is_running_state, read_frames}
-use Rattle.mux_end.proofs.Plain.{same_key-refl, each_rest, termination_emitted-built, completion_emitted-built, is_dropped-built, unread_length-built, emitted-running, emitted_by, emitted_by_read, accepted_by_peer, granted_by_offer, granted_by_acceptance, granted_by_credit, acknowledged_by_credit, taken_by_content}
+use Rattle.mux_end.proofs.Plain.{same_key-refl, termination_emitted-built, completion_emitted-built, is_dropped-built, unread_length-built, emitted-running, emitted_by, emitted_by_read, accepted_by_peer, granted_by_offer, granted_by_acceptance, granted_by_credit, acknowledged_by_credit, taken_by_content}
 use Rattle.mux_end.proofs.Tells.{none_before}
 
 -- the one channel
@@ -38,9 +36,6 @@ same_sendable a a' g g' ws ws' p q r = λ i. emitted_by version.Three (p i) (q i
 pub emitted_sendable : (c : ChannelKey) (items : List Item) → list_all is_built_item items ≡ true → is_running items ≡ true → (lane_of version.Three c items).emitted ≡ sendable (lane_of version.Three c items)
 emitted_sendable c items each running = emitted-running version.Three c items each running
 
-pub with_emitted-running : (c : ChannelKey) (items : List Item) → list_all is_built_item items ≡ true → is_running items ≡ true → with_emitted (lane_of version.Three c items) ≡ lane_of version.Three c items
-with_emitted-running c items each running = ap (λ n. let l : Lane = record (lane_of version.Three c items) { emitted = n } in l) (sym (emitted_sendable c items each running))
-
 -- the lane where the end still runs is this one, with all emitted that may be
 lane_by : (c : ChannelKey) (items : List Item) (lane : Lane) → list_all is_built_item items ≡ true → is_running items ≡ true
     → c ≡ lane.key → window c items ≡ lane.window → is_accepted version.Three c items ≡ lane.accepted → granted version.Three c items ≡ lane.granted → acknowledged version.Three c items ≡ lane.acknowledged
@@ -48,33 +43,33 @@ lane_by : (c : ChannelKey) (items : List Item) (lane : Lane) → list_all is_bui
     → lane_of version.Three c items ≡ with_emitted lane
 lane_by c items lane each running k w x g n ws ts h =
     same_lane (lane_of version.Three c items) (with_emitted lane) k w x g n ws
-      (emitted_sendable c items each running ∙ same_sendable (is_accepted version.Three c items) lane.accepted (granted version.Three c items) lane.granted (written c items) lane.written x g ws) ts h
+    (emitted_sendable c items each running ∙ same_sendable (is_accepted version.Three c items) lane.accepted (granted version.Three c items) lane.granted (written c items) lane.written x g ws) ts h
 
 pub lane_accepted : (c : ChannelKey) (size : ℕ) (items : List Item) → list_all is_built_item items ≡ true → is_running items ≡ true
     → lane_of version.Three c (DidAccept c size ∷ items) ≡ with_emitted (accepted_lane size (lane_of version.Three c items))
 lane_accepted c size items each running =
     lane_by c (DidAccept c size ∷ items) (accepted_lane size (lane_of version.Three c items)) each running refl
-      (ap (λ b. if b then window c items + size else window c items) (same_key-refl c)) (ap (λ b. if b then true else is_accepted version.Three c items) (same_key-refl c)) refl refl refl refl refl
+    (ap (λ b. if b then window c items + size else window c items) (same_key-refl c)) (ap (λ b. if b then true else is_accepted version.Three c items) (same_key-refl c)) refl refl refl refl refl
 
 pub lane_answered : (at : ℕ) (c : ChannelKey) (size : Option ℕ) (items : List Item) → list_all is_built_item items ≡ true → is_running items ≡ true
     → lane_of version.Three c (Got at c (OfferAccepted size) ∷ items) ≡ with_emitted (answered_lane (window_of size) (lane_of version.Three c items))
 lane_answered at c size items each running =
     lane_by c (Got at c (OfferAccepted size) ∷ items) (answered_lane (window_of size) (lane_of version.Three c items)) each running refl refl
-      (accepted_by_peer version.Three c c at size items each ∙ ap (λ b. if b then true else is_accepted version.Three c items) (same_key-refl c))
-      (granted_by_acceptance version.Three c c at size items each ∙ ap (λ b. if b then granted version.Three c items + window_of size else granted version.Three c items) (same_key-refl c)) refl refl refl refl
+    (accepted_by_peer version.Three c c at size items each ∙ ap (λ b. if b then true else is_accepted version.Three c items) (same_key-refl c))
+    (granted_by_acceptance version.Three c c at size items each ∙ ap (λ b. if b then granted version.Three c items + window_of size else granted version.Three c items) (same_key-refl c)) refl refl refl refl
 
 pub lane_wrote : (c : ChannelKey) (bytes : List ℕ) (items : List Item) → list_all is_built_item items ≡ true → is_running items ≡ true
     → lane_of version.Three c (DidWrite c bytes ∷ items) ≡ with_emitted (written_lane bytes (lane_of version.Three c items))
 lane_wrote c bytes items each running =
     lane_by c (DidWrite c bytes ∷ items) (written_lane bytes (lane_of version.Three c items)) each running refl refl refl refl refl
-      (ap (λ b. if b then written c items ++ bytes else written c items) (same_key-refl c)) refl refl
+    (ap (λ b. if b then written c items ++ bytes else written c items) (same_key-refl c)) refl refl
 
 pub lane_credited : (at : ℕ) (c : ChannelKey) (count : ℕ) (items : List Item) → list_all is_built_item items ≡ true → is_running items ≡ true
     → lane_of version.Three c (Got at c (ContentProcessed count) ∷ items) ≡ with_emitted (credited_lane count (lane_of version.Three c items))
 lane_credited at c count items each running =
     lane_by c (Got at c (ContentProcessed count) ∷ items) (credited_lane count (lane_of version.Three c items)) each running refl refl refl
-      (granted_by_credit version.Three c c at count items each ∙ ap (λ b. if b then granted version.Three c items + count else granted version.Three c items) (same_key-refl c))
-      (acknowledged_by_credit version.Three c c at count items each ∙ ap (λ b. if b then acknowledged version.Three c items + count else acknowledged version.Three c items) (same_key-refl c)) refl refl refl
+    (granted_by_credit version.Three c c at count items each ∙ ap (λ b. if b then granted version.Three c items + count else granted version.Three c items) (same_key-refl c))
+    (acknowledged_by_credit version.Three c c at count items each ∙ ap (λ b. if b then acknowledged version.Three c items + count else acknowledged version.Three c items) (same_key-refl c)) refl refl refl
 
 took_emitted : (at : ℕ) (c : ChannelKey) (bytes : List ℕ) (items : List Item) → list_all is_built_item items ≡ true → is_running items ≡ true
     → emitted version.Three c (Got at c (Content bytes) ∷ items) ≡ emitted version.Three c items
@@ -84,15 +79,15 @@ pub lane_took : (at : ℕ) (c : ChannelKey) (bytes : List ℕ) (items : List Ite
     → lane_of version.Three c (Got at c (Content bytes) ∷ items) ≡ taken_lane bytes (lane_of version.Three c items)
 lane_took at c bytes items each running =
     same_lane (lane_of version.Three c (Got at c (Content bytes) ∷ items)) (taken_lane bytes (lane_of version.Three c items)) refl refl refl refl refl refl (took_emitted at c bytes items each running)
-      (taken_by_content version.Three c c at bytes items each ∙ ap (λ b. if b then taken version.Three c items ++ bytes else taken version.Three c items) (same_key-refl c)) refl
+    (taken_by_content version.Three c c at bytes items each ∙ ap (λ b. if b then taken version.Three c items ++ bytes else taken version.Three c items) (same_key-refl c)) refl
 
 -- a read, also after the end
 pub lane_read : (c : ChannelKey) (max : ℕ) (items : List Item) → list_all is_built_item items ≡ true
     → lane_of version.Three c (DidRead c max ∷ items) ≡ read_lane max (lane_of version.Three c items)
 lane_read c max items each =
     same_lane (lane_of version.Three c (DidRead c max ∷ items)) (read_lane max (lane_of version.Three c items)) refl refl refl refl refl refl (emitted_by_read version.Three c c max items) refl
-      (ap (λ b. if b then handed version.Three c items + min max (unread_count (is_dropped version.Three c items) (length (taken version.Three c items)) (handed version.Three c items)) else handed version.Three c items) (same_key-refl c)
-       ∙ ap (λ b. handed version.Three c items + min max (unread_count b (length (taken version.Three c items)) (handed version.Three c items))) (is_dropped-built version.Three c items each))
+    (ap (λ b. if b then handed version.Three c items + min max (unread_count (is_dropped version.Three c items) (length (taken version.Three c items)) (handed version.Three c items)) else handed version.Three c items) (same_key-refl c)
+    ∙ ap (λ b. handed version.Three c items + min max (unread_count b (length (taken version.Three c items)) (handed version.Three c items))) (is_dropped-built version.Three c items each))
 
 pub lane_end : (v : Version) (c : ChannelKey) (cause : Cause) (items : List Item) → lane_of v c (End cause ∷ items) ≡ lane_of v c items
 lane_end v c cause items = refl
@@ -102,15 +97,14 @@ pub lane_offered : (c : ChannelKey) (name : List ℕ) (size : ℕ) (items : List
     → lane_of version.Three c (DidOffer c name size ∷ items) ≡ offered_lane c size
 lane_offered c name size items each a running none =
     subst (λ items. lane_of version.Three c (DidOffer c name size ∷ items) ≡ offered_lane c size) (sym (none_before version.Three items each a running none))
-      (same_lane (lane_of version.Three c (DidOffer c name size ∷ [])) (offered_lane c size) refl (ap (λ b. if b then 0 + size else 0) (same_key-refl c) ∙ omega arith) refl refl refl refl refl refl refl)
+    (same_lane (lane_of version.Three c (DidOffer c name size ∷ [])) (offered_lane c size) refl (ap (λ b. if b then 0 + size else 0) (same_key-refl c) ∙ omega arith) refl refl refl refl refl refl refl)
 
 pub lane_heard : (at : ℕ) (c : ChannelKey) (name : List ℕ) (size : Option ℕ) (items : List Item) → list_all is_built_item items ≡ true → Allowed version.Three items → is_running items ≡ true → keys items ≡ []
     → lane_of version.Three c (Got at c (Offer name size) ∷ items) ≡ heard_lane c (window_of size)
 lane_heard at c name size items each a running none =
     subst (λ items. lane_of version.Three c (Got at c (Offer name size) ∷ items) ≡ heard_lane c (window_of size)) (sym (none_before version.Three items each a running none))
-      (same_lane (lane_of version.Three c (Got at c (Offer name size) ∷ [])) (heard_lane c (window_of size)) refl refl refl
-        (granted_by_offer version.Three c c at name size [] refl ∙ (ap (λ b. if b then 0 + window_of size else 0) (same_key-refl c) ∙ omega arith)) refl refl refl refl refl)
-
+    (same_lane (lane_of version.Three c (Got at c (Offer name size) ∷ [])) (heard_lane c (window_of size)) refl refl refl
+    (granted_by_offer version.Three c c at name size [] refl ∙ (ap (λ b. if b then 0 + window_of size else 0) (same_key-refl c) ∙ omega arith)) refl refl refl refl refl)
 
 -- the first own offer draws the id 1
 pub next_key-none : (items : List Item) → list_all is_built_item items ≡ true → Allowed version.Three items → is_running items ≡ true → keys items ≡ []
@@ -123,9 +117,9 @@ due_on-built : (v : Version) (c : ChannelKey) (first : List ChannelFrame) (item 
 due_on-built v c first item items each =
     let content : List ChannelFrame = content_frames c (newly_emitted v c item items) in
     let frames : Bool → Bool → List ChannelFrame = λ completed terminated.
-      first ++ content
-      ++ (if completed && not (completion_emitted v c items) then frame_on c ContentWritingCompleted ∷ [] else [])
-      ++ (if terminated && not (termination_emitted v c items) then frame_on c ChannelTerminated ∷ [] else []) in
+    first ++ content
+    ++ (if completed && not (completion_emitted v c items) then frame_on c ContentWritingCompleted ∷ [] else [])
+    ++ (if terminated && not (termination_emitted v c items) then frame_on c ChannelTerminated ∷ [] else []) in
     ap (λ b. frames b (termination_emitted v c (item ∷ items))) (completion_emitted-built v c (item ∷ items) each)
     ∙ (ap (λ b. frames false b) (termination_emitted-built v c (item ∷ items) each) ∙ simp append-nil)
 

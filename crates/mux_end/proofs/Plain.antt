@@ -1,25 +1,16 @@
 -- What the lists of a channel are where every item is one of this stage.
-use Rattle.std.proofs.Common.{◌≡◌, ◌≤◌, ◌<◌, ℕ, ◌+◌, ◌-◌, min, List, [], ◌∷◌, ◌++◌, length, drop, Bool, true, false, Option, Some, None, refl, sym, ◌∙◌, ap, subst, arith, inl, inr, length-append, length-drop}
-use Rattle.std.specs.Prelude.{not, ◌&&◌, ◌||◌, nat_lt, nat_le, ◌==◌, if◌then◌else◌, is_none, filter, sum_by}
+use Rattle.std.proofs.Common.{◌≡◌, ℕ, ◌+◌, ◌-◌, List, [], ◌∷◌, ◌++◌, length, drop, Bool, true, false, Option, None, refl, sym, ◌∙◌, ap, arith, inl, inr, length-drop}
+use Rattle.std.specs.Prelude.{not, ◌&&◌, ◌||◌, ◌==◌, if◌then◌else◌, filter, sum_by}
 use Rattle.std.specs.List.{list_all, list_any}
-use Rattle.std.proofs.lemmas.Bool.{and_parts, or_parts, or_from, cases_Bool, false≢true, eqb-true, eq-eqb, ltb-false, ltb-true}
-use Rattle.std.proofs.lemmas.Bool.Decides.{nat_tests}
+use Rattle.std.proofs.lemmas.Bool.{and_parts, or_from, cases_Bool, false≢true, eqb-true, eq-eqb}
 use Rattle.wire_base.specs.declared.frame.Version.{Version}
-use Rattle.wire_base.specs.declared.frame.Version.TheVariants as version
-use Rattle.wire_base.specs.declared.refusal.Refusal.{Refusal}
-use Rattle.wire_base.specs.declared.refusal.Refusal.TheVariants as refusal
-use Rattle.wire_base.specs.declared.reason.Reason.{Reason}
-use Rattle.wire_base.specs.declared.reason.Reason.TheVariants as reason
-use Rattle.wire_base.specs.declared.state.Cause.{Cause}
 use Rattle.mux_items.specs.declared.channel.ChannelKey.{ChannelKey}
 use Rattle.mux_items.specs.declared.party.Party.TheVariants.{Neither}
-use Rattle.mux_items.specs.Bodies.{FrameBody, Offer, OfferAccepted, Content, ContentWritingCompleted, ChannelTerminated, ContentProcessed, same_key, same_bool, window_of}
-use Rattle.mux_items.specs.Items.{Item, Hello, DidOffer, DidAccept, DidWrite, DidRead, DidComplete, DidTerminate, Got, Rejected, End, ended, is_running, greeting, party_of}
-use Rattle.mux_items.specs.Lists.{written, window, is_offered, is_rejected, has_completed, has_terminated, is_terminated_by_peer, is_cut, before_cut, is_accepted_in, granted_in, is_completed_in, within_grant, emitted_in, emitted, completion_emitted, is_finished, termination_emitted, heeds, taken, is_accepted, is_completed, acknowledged, granted, is_dropped, unread_count, handed, unread, is_closed}
-use Rattle.mux_items.specs.Kept.{keys, is_known, has_bytes, is_kept, kept_keys, own_windows, own_offers, next_key}
-use Rattle.mux_items.specs.Refusals.{unless_ended}
-use Rattle.mux_items.specs.Applying.{Allowed}
-use Rattle.mux_end.specs.Stands.{IsBuilt, is_built_body, is_built_item}
+use Rattle.mux_items.specs.Bodies.{Offer, OfferAccepted, Content, ContentWritingCompleted, ChannelTerminated, ContentProcessed, same_key, same_bool, window_of}
+use Rattle.mux_items.specs.Items.{Item, Hello, DidOffer, DidAccept, DidRead, DidComplete, DidTerminate, Got, Rejected, End, ended, is_running, greeting, party_of}
+use Rattle.mux_items.specs.Lists.{written, window, is_offered, is_rejected, has_completed, has_terminated, is_terminated_by_peer, is_cut, before_cut, is_accepted_in, granted_in, is_completed_in, within_grant, emitted_in, emitted, completion_emitted, is_finished, termination_emitted, heeds, taken, is_accepted, is_completed, acknowledged, granted, is_dropped, handed, unread, is_closed}
+use Rattle.mux_items.specs.Kept.{keys, is_known, has_bytes, is_kept, kept_keys, own_windows}
+use Rattle.mux_end.specs.Stands.{is_built_item}
 
 -- keys
 same_bool-refl : (a : Bool) → same_bool a a ≡ true
@@ -52,9 +43,6 @@ or_false false = refl
 -- the items of this stage
 pub each_rest : (item : Item) (items : List Item) → list_all is_built_item (item ∷ items) ≡ true → list_all is_built_item items ≡ true
 each_rest item items each = (and_parts (is_built_item item) (list_all is_built_item items) each).1
-
-pub each_first : (item : Item) (items : List Item) → list_all is_built_item (item ∷ items) ≡ true → is_built_item item ≡ true
-each_first item items each = (and_parts (is_built_item item) (list_all is_built_item items) each).0
 
 pub has_terminated-built : (c : ChannelKey) (items : List Item) → list_all is_built_item items ≡ true → has_terminated c items ≡ false
 has_terminated-built c [] each = refl
@@ -97,7 +85,7 @@ and_middle false b c e = refl
 pub completion_emitted-built : (v : Version) (c : ChannelKey) (items : List Item) → list_all is_built_item items ≡ true → completion_emitted v c items ≡ false
 completion_emitted-built v c items each =
     and_middle (is_accepted_in c (before_cut c items)) (has_completed c (before_cut c items)) (emitted_in v c (before_cut c items) == length (written c (before_cut c items)))
-      (has_completed-built c (before_cut c items) (before_cut-built c items each))
+    (has_completed-built c (before_cut c items) (before_cut-built c items each))
 
 pub is_finished-built : (v : Version) (c : ChannelKey) (items : List Item) → list_all is_built_item items ≡ true → is_finished v c items ≡ false
 is_finished-built v c items each = ap (λ b. b && is_completed_in c (before_cut c items)) (completion_emitted-built v c items each)
@@ -211,12 +199,6 @@ emitted_by_read v c key max items = elim (cases_Bool (is_cut c items)) [
 ]
 
 -- channels that are known
-same_bool-sym : (a b : Bool) → same_bool a b ≡ same_bool b a
-same_bool-sym true true = refl
-same_bool-sym true false = refl
-same_bool-sym false true = refl
-same_bool-sym false false = refl
-
 pub same_key-sym : (a b : ChannelKey) → same_key a b ≡ same_key b a
 same_key-sym a b = elim (cases_Bool (same_key a b)) [
   | inl same ↦ let e = same_key-true a b same in ap (λ k. same_key k b) e ∙ sym (ap (λ k. same_key b k) e)

@@ -1,6 +1,6 @@
 -- The rules' refusals and views are those of what an end of version 3 keeps.
-use Rattle.std.proofs.Common.{◌≡◌, ◌≤◌, ◌<◌, ℕ, ◌+◌, ◌-◌, min, List, [], ◌∷◌, ◌++◌, length, take, drop, Bool, true, false, Option, Some, None, refl, sym, ◌∙◌, ap, subst, arith, inl, inr, ◌⊎◌, length-append, length-drop}
-use Rattle.std.specs.Prelude.{not, ◌&&◌, ◌||◌, ◌==◌, nat_lt, nat_le, if◌then◌else◌, is_none, filter, sum_by}
+use Rattle.std.proofs.Common.{◌≡◌, ◌≤◌, ℕ, ◌+◌, List, [], ◌∷◌, length, Bool, true, false, Option, Some, None, refl, sym, ◌∙◌, ap, subst, arith, inl, inr, ◌⊎◌}
+use Rattle.std.specs.Prelude.{not, ◌&&◌, ◌||◌, nat_lt, nat_le, if◌then◌else◌, sum_by}
 use Rattle.std.specs.List.{list_all}
 use Rattle.std.proofs.lemmas.Bool.{cases_Bool, false≢true, or_parts, ltb-false, le-ltb, lt-leb}
 use Rattle.wire_base.specs.declared.frame.Version.{Version}
@@ -10,21 +10,18 @@ use Rattle.wire_base.specs.declared.refusal.Refusal.TheVariants as refusal
 use Rattle.wire_base.specs.declared.reason.Reason.{Reason}
 use Rattle.wire_base.specs.declared.reason.Reason.TheVariants as reason
 use Rattle.wire_base.specs.declared.state.Cause.{Cause}
-use Rattle.wire_base.specs.declared.state.EndState.{EndState}
 use Rattle.mux_items.specs.declared.channel.ChannelKey.{ChannelKey}
-use Rattle.mux_items.specs.declared.channel.ChannelView.{ChannelView}
-use Rattle.mux_items.specs.declared.channel.Tally.{Tally}
 use Rattle.mux_items.specs.Bodies.{FrameBody, Offer, OfferAccepted, Content, ContentWritingCompleted, ChannelTerminated, ContentProcessed, same_key}
-use Rattle.mux_items.specs.Items.{Item, DidOffer, DidAccept, DidWrite, DidRead, Got, End, ended, is_running}
-use Rattle.mux_items.specs.Lists.{written, window, emitted, is_offered, termination_emitted, has_completed, taken, is_accepted, is_completed, acknowledged, granted, handed, unread}
+use Rattle.mux_items.specs.Items.{Item, DidOffer, Got, ended}
+use Rattle.mux_items.specs.Lists.{written, window, termination_emitted, has_completed, is_accepted, unread}
 use Rattle.mux_items.specs.Kept.{keys, is_known, is_kept, kept_keys, own_windows, own_offers, most_channels}
-use Rattle.mux_items.specs.Refusals.{unless_ended, most_windows, is_bad_window, offer_refusal, accept_refusal, is_unaccepted, open_refusal, or_else, writing_refusal, most_bytes, write_refusal, read_refusal, heeded_refusal, later_refusal, frame_refusal}
+use Rattle.mux_items.specs.Refusals.{unless_ended, most_windows, is_bad_window, offer_refusal, accept_refusal, is_unaccepted, or_else, most_bytes, write_refusal, read_refusal, heeded_refusal, later_refusal}
 use Rattle.mux_items.specs.Applying.{Allowed}
-use Rattle.mux_end.specs.Lane.{Lane, lane_of, lane_of_keys, channel_of}
+use Rattle.mux_end.specs.Lane.{Lane, lane_of, channel_of}
 use Rattle.mux_end.specs.Stands.{IsBuilt, is_built_item, state_by, state_of}
 use Rattle.mux_end.specs.Replies.{built_refusal, second_offer, reason_or}
-use Rattle.mux_end.specs.Tests.{unless_over, unless_stopped, offer_tests, lane_offer_refusal, accept_tests, on_lane, lane_accept_refusal, write_tests, lane_write_refusal, read_tests, lane_read_refusal, unread_in, peer_offer_tests, on_named, acceptance_tests, content_tests, processed_tests, lane_frame_refusal}
-use Rattle.mux_end.proofs.Plain.{same_key-refl, same_key-true, each_rest, is_kept-built, is_known-none, is_known-one, kept_keys-none, kept_keys-one, own_windows-one, is_offered-built, termination_emitted-built, has_completed-built, is_completed-built, unread_length-built}
+use Rattle.mux_end.specs.Tests.{unless_over, unless_stopped, offer_tests, lane_offer_refusal, accept_tests, lane_accept_refusal, write_tests, lane_write_refusal, read_tests, lane_read_refusal, peer_offer_tests, on_named, acceptance_tests, content_tests, processed_tests, lane_frame_refusal}
+use Rattle.mux_end.proofs.Plain.{same_key-refl, same_key-true, is_kept-built, is_known-none, is_known-one, kept_keys-none, kept_keys-one, own_windows-one, is_offered-built, termination_emitted-built, has_completed-built, is_completed-built, unread_length-built}
 use Rattle.mux_end.proofs.Tells.{window_small, no_keys}
 use Rattle.mux_end.proofs.Lanes.{channel_none, channel_one}
 
@@ -57,9 +54,9 @@ pub channel_is : {A : Type 0} (rule : ChannelKey → A) (kept : Option Lane → 
 channel_is rule kept key items built unknown same other = elim (keys_cases (keys items) built.one) [
   | inl none ↦ unknown (is_known-none key items none) ∙ ap (λ channel. kept channel key) (sym (channel_none version.Three items none))
   | inr w ↦
-    key_cases key w.0 (λ k. rule k ≡ kept (Some (lane_of version.Three w.0 items)) k) (same w.0 w.1)
+      key_cases key w.0 (λ k. rule k ≡ kept (Some (lane_of version.Three w.0 items)) k) (same w.0 w.1)
       (λ differ. unknown (is_known-one key w.0 items w.1 ∙ differ) ∙ sym (other w.0 differ))
-    ∙ ap (λ channel. kept channel key) (sym (channel_one version.Three w.0 items w.1))
+      ∙ ap (λ channel. kept channel key) (sym (channel_one version.Three w.0 items w.1))
 ]
 
 pub is_kept-one : (c : ChannelKey) (items : List Item) → list_all is_built_item items ≡ true → keys items ≡ c ∷ [] → is_kept version.Three c items ≡ true
@@ -69,8 +66,8 @@ is_kept-one c items each one = is_kept-built version.Three c items each ∙ (is_
 write_chain : Bool → Bool → Bool → Bool → Bool → Option Refusal
 write_chain kept closed unaccepted done full =
     or_else (or_else (if not kept then Some refusal.NoChannel else if closed then Some refusal.NotOpen else None)
-      (if unaccepted then Some refusal.NotAccepted else if done then Some refusal.WritingDone else None))
-      (if full then Some refusal.BytesSpent else None)
+    (if unaccepted then Some refusal.NotAccepted else if done then Some refusal.WritingDone else None))
+    (if full then Some refusal.BytesSpent else None)
 
 write_unkept : (closed unaccepted done full : Bool) → write_chain false closed unaccepted done full ≡ Some refusal.NoChannel
 unfolding write_chain
@@ -92,16 +89,16 @@ write_refusal_is key bytes items built =
     let full : ChannelKey → Bool = λ k. nat_lt most_bytes (length (written k items) + length bytes) in
     let unaccepted : ChannelKey → Bool = λ k. is_unaccepted version.Three k items in
     channel_is (λ k. write_refusal version.Three k bytes items) (λ channel k. lane_write_refusal (state_of items) channel k bytes) key items built
-      (λ unknown. write_is version.Three key bytes items
-        ∙ (ap (λ b. unless_ended (ended items) (write_chain b (termination_emitted version.Three key items) (unaccepted key) (has_completed key items) (full key))) (is_kept-built version.Three key items built.each ∙ unknown)
-        ∙ (ap (unless_ended (ended items)) (write_unkept (termination_emitted version.Three key items) (unaccepted key) (has_completed key items) (full key))
-        ∙ sym (over_ended (ended items) (Some refusal.NoChannel)))))
-      (λ c one. write_is version.Three c bytes items
-        ∙ ((λ i. unless_ended (ended items) (write_chain (is_kept-one c items built.each one i) (termination_emitted-built version.Three c items built.each i) (unaccepted c) (has_completed-built c items built.each i) (full c)))
-        ∙ (ap (unless_ended (ended items)) (write_kept (unaccepted c) (full c)
-          ∙ ap (λ b. if not b then Some refusal.NoChannel else if unaccepted c then Some refusal.NotAccepted else if full c then Some refusal.BytesSpent else None) (sym (same_key-refl c)))
-        ∙ sym (over_ended (ended items) (write_tests (lane_of version.Three c items) c bytes)))))
-      (λ c differ. ap (λ b. unless_over (state_of items) (if not b then Some refusal.NoChannel else if not key.own && not (is_accepted version.Three c items) then Some refusal.NotAccepted else if full c then Some refusal.BytesSpent else None)) differ)
+    (λ unknown. write_is version.Three key bytes items
+    ∙ (ap (λ b. unless_ended (ended items) (write_chain b (termination_emitted version.Three key items) (unaccepted key) (has_completed key items) (full key))) (is_kept-built version.Three key items built.each ∙ unknown)
+    ∙ (ap (unless_ended (ended items)) (write_unkept (termination_emitted version.Three key items) (unaccepted key) (has_completed key items) (full key))
+    ∙ sym (over_ended (ended items) (Some refusal.NoChannel)))))
+    (λ c one. write_is version.Three c bytes items
+    ∙ ((λ i. unless_ended (ended items) (write_chain (is_kept-one c items built.each one i) (termination_emitted-built version.Three c items built.each i) (unaccepted c) (has_completed-built c items built.each i) (full c)))
+    ∙ (ap (unless_ended (ended items)) (write_kept (unaccepted c) (full c)
+    ∙ ap (λ b. if not b then Some refusal.NoChannel else if unaccepted c then Some refusal.NotAccepted else if full c then Some refusal.BytesSpent else None) (sym (same_key-refl c)))
+    ∙ sym (over_ended (ended items) (write_tests (lane_of version.Three c items) c bytes)))))
+    (λ c differ. ap (λ b. unless_over (state_of items) (if not b then Some refusal.NoChannel else if not key.own && not (is_accepted version.Three c items) then Some refusal.NotAccepted else if full c then Some refusal.BytesSpent else None)) differ)
 
 -- reading
 pub read_refusal_is : (key : ChannelKey) (items : List Item) → IsBuilt items
@@ -109,9 +106,9 @@ pub read_refusal_is : (key : ChannelKey) (items : List Item) → IsBuilt items
 read_refusal_is key items built =
     let tests : Bool → Bool → Option Refusal = λ kept unaccepted. if not kept then Some refusal.NoChannel else if unaccepted then Some refusal.NotAccepted else None in
     channel_is (λ k. read_refusal version.Three k items) (λ channel k. lane_read_refusal (state_of items) channel k) key items built
-      (λ unknown. ap (λ b. tests b (is_unaccepted version.Three key items)) (is_kept-built version.Three key items built.each ∙ unknown) ∙ sym (stopped_ended (ended items) (Some refusal.NoChannel)))
-      (λ c one. ap (λ b. tests b (is_unaccepted version.Three c items)) (is_kept-one c items built.each one ∙ sym (same_key-refl c)) ∙ sym (stopped_ended (ended items) (read_tests (lane_of version.Three c items) c)))
-      (λ c differ. ap (λ b. unless_stopped (state_of items) (tests b (not key.own && not (is_accepted version.Three c items)))) differ)
+    (λ unknown. ap (λ b. tests b (is_unaccepted version.Three key items)) (is_kept-built version.Three key items built.each ∙ unknown) ∙ sym (stopped_ended (ended items) (Some refusal.NoChannel)))
+    (λ c one. ap (λ b. tests b (is_unaccepted version.Three c items)) (is_kept-one c items built.each one ∙ sym (same_key-refl c)) ∙ sym (stopped_ended (ended items) (read_tests (lane_of version.Three c items) c)))
+    (λ c differ. ap (λ b. unless_stopped (state_of items) (tests b (not key.own && not (is_accepted version.Three c items)))) differ)
 
 -- accepting
 accept_chain : Bool → Bool → Bool → Bool → Bool → Bool → Option Refusal
@@ -159,16 +156,16 @@ pub accept_refusal_is : (key : ChannelKey) (size : ℕ) (items : List Item) → 
 accept_refusal_is key size items built allowed =
     let spent : Bool = nat_lt most_windows (own_windows version.Three items + size) in
     channel_is (λ k. accept_refusal version.Three k size items) (λ channel k. lane_accept_refusal (state_of items) channel k size) key items built
-      (λ unknown. accept_is version.Three key size items
-        ∙ (ap (λ b. unless_ended (ended items) (accept_chain b key.own (termination_emitted version.Three key items) (is_accepted version.Three key items) (is_bad_window size) spent)) (is_kept-built version.Three key items built.each ∙ unknown)
-        ∙ (ap (unless_ended (ended items)) (accept_unkept key.own (termination_emitted version.Three key items) (is_accepted version.Three key items) (is_bad_window size) spent)
-        ∙ sym (over_ended (ended items) (Some refusal.NoChannel)))))
-      (λ c one. accept_is version.Three c size items
-        ∙ ((λ i. unless_ended (ended items) (accept_chain (is_kept-one c items built.each one i) c.own (termination_emitted-built version.Three c items built.each i) (is_accepted version.Three c items) (is_bad_window size) spent))
-        ∙ (ap (unless_ended (ended items)) (accept_kept c.own (is_accepted version.Three c items) (is_bad_window size) spent (windows_left (own_windows version.Three items) size (own_windows_small items built allowed))
-          ∙ ap (λ b. if not b then Some refusal.NoChannel else if c.own then Some refusal.WrongSide else if is_accepted version.Three c items then Some refusal.AlreadyAccepted else if is_bad_window size then Some refusal.BadWindow else None) (sym (same_key-refl c)))
-        ∙ sym (over_ended (ended items) (accept_tests (lane_of version.Three c items) c size)))))
-      (λ c differ. ap (λ b. unless_over (state_of items) (if not b then Some refusal.NoChannel else if key.own then Some refusal.WrongSide else if is_accepted version.Three c items then Some refusal.AlreadyAccepted else if is_bad_window size then Some refusal.BadWindow else None)) differ)
+    (λ unknown. accept_is version.Three key size items
+    ∙ (ap (λ b. unless_ended (ended items) (accept_chain b key.own (termination_emitted version.Three key items) (is_accepted version.Three key items) (is_bad_window size) spent)) (is_kept-built version.Three key items built.each ∙ unknown)
+    ∙ (ap (unless_ended (ended items)) (accept_unkept key.own (termination_emitted version.Three key items) (is_accepted version.Three key items) (is_bad_window size) spent)
+    ∙ sym (over_ended (ended items) (Some refusal.NoChannel)))))
+    (λ c one. accept_is version.Three c size items
+    ∙ ((λ i. unless_ended (ended items) (accept_chain (is_kept-one c items built.each one i) c.own (termination_emitted-built version.Three c items built.each i) (is_accepted version.Three c items) (is_bad_window size) spent))
+    ∙ (ap (unless_ended (ended items)) (accept_kept c.own (is_accepted version.Three c items) (is_bad_window size) spent (windows_left (own_windows version.Three items) size (own_windows_small items built allowed))
+    ∙ ap (λ b. if not b then Some refusal.NoChannel else if c.own then Some refusal.WrongSide else if is_accepted version.Three c items then Some refusal.AlreadyAccepted else if is_bad_window size then Some refusal.BadWindow else None) (sym (same_key-refl c)))
+    ∙ sym (over_ended (ended items) (accept_tests (lane_of version.Three c items) c size)))))
+    (λ c differ. ap (λ b. unless_over (state_of items) (if not b then Some refusal.NoChannel else if key.own then Some refusal.WrongSide else if is_accepted version.Three c items then Some refusal.AlreadyAccepted else if is_bad_window size then Some refusal.BadWindow else None)) differ)
 
 -- offering
 offer_chain : Bool → Bool → Bool → Bool → Bool → Option Refusal
@@ -210,8 +207,8 @@ offer_refusal_is name size items built allowed =
     let offers = own_offers_few items in
     offer_is name size items
     ∙ (ap (unless_ended (ended items))
-        (offer_left (nat_lt 1024 (length name)) (is_bad_window size) (nat_le most_channels (length (kept_keys version.Three items))) (nat_lt most_windows (own_windows version.Three items + size)) (nat_le 2147483647 (own_offers items))
-          (lt-leb most_channels (length (kept_keys version.Three items)) (omega arith)) (windows_left (own_windows version.Three items) size (own_windows_small items built allowed)) (lt-leb 2147483647 (own_offers items) (omega (arith, built.one))))
+    (offer_left (nat_lt 1024 (length name)) (is_bad_window size) (nat_le most_channels (length (kept_keys version.Three items))) (nat_lt most_windows (own_windows version.Three items + size)) (nat_le 2147483647 (own_offers items))
+    (lt-leb most_channels (length (kept_keys version.Three items)) (omega arith)) (windows_left (own_windows version.Three items) size (own_windows_small items built allowed)) (lt-leb 2147483647 (own_offers items) (omega (arith, built.one))))
     ∙ sym (over_ended (ended items) (offer_tests name size)))
 
 -- frames
@@ -234,11 +231,11 @@ peer_offer_is key name size items built =
     let refused : Bool → List ChannelKey → Option Reason = λ known ks. reason_or (if key.own then Some reason.WrongSide else if known then Some reason.IdInUse else None) (second_offer (Offer name size) ks) in
     elim (keys_cases (keys items) built.one) [
       | inl none ↦
-        (λ i. refused ((is_offered-built key items built.each ∙ is_known-none key items none) i) (none i))
-        ∙ (peer_offer_first key.own ∙ ap (λ channel. peer_offer_tests channel key) (sym (channel_none version.Three items none)))
+          (λ i. refused ((is_offered-built key items built.each ∙ is_known-none key items none) i) (none i))
+          ∙ (peer_offer_first key.own ∙ ap (λ channel. peer_offer_tests channel key) (sym (channel_none version.Three items none)))
       | inr w ↦
-        (λ i. refused ((is_offered-built key items built.each ∙ is_known-one key w.0 items w.1) i) (w.1 i))
-        ∙ (peer_offer_second key.own (same_key key w.0) ∙ ap (λ channel. peer_offer_tests channel key) (sym (channel_one version.Three w.0 items w.1)))
+          (λ i. refused ((is_offered-built key items built.each ∙ is_known-one key w.0 items w.1) i) (w.1 i))
+          ∙ (peer_offer_second key.own (same_key key w.0) ∙ ap (λ channel. peer_offer_tests channel key) (sym (channel_one version.Three w.0 items w.1)))
     ]
 
 later_is : (key : ChannelKey) (body : FrameBody) (items : List Item) (tests : ChannelKey → Lane → Option Reason) → IsBuilt items
@@ -247,9 +244,9 @@ later_is : (key : ChannelKey) (body : FrameBody) (items : List Item) (tests : Ch
 later_is key body items tests built heeded =
     let later : Bool → Bool → Option Reason → Option Reason = λ known closed r. if not known then Some reason.NoChannel else if closed then None else r in
     channel_is (λ k. later_refusal version.Three k body items) (λ channel k. on_named channel k (tests k)) key items built
-      (λ unknown. ap (λ b. later b (termination_emitted version.Three key items) (heeded_refusal version.Three key body items)) (is_offered-built key items built.each ∙ unknown))
-      (λ c one. λ i. later ((is_offered-built c items built.each ∙ (is_known-one c c items one ∙ (same_key-refl c ∙ sym (same_key-refl c)))) i) (termination_emitted-built version.Three c items built.each i) (heeded c i))
-      (λ c differ. ap (λ b. if not b then Some reason.NoChannel else tests key (lane_of version.Three c items)) differ)
+    (λ unknown. ap (λ b. later b (termination_emitted version.Three key items) (heeded_refusal version.Three key body items)) (is_offered-built key items built.each ∙ unknown))
+    (λ c one. λ i. later ((is_offered-built c items built.each ∙ (is_known-one c c items one ∙ (same_key-refl c ∙ sym (same_key-refl c)))) i) (termination_emitted-built version.Three c items built.each i) (heeded c i))
+    (λ c differ. ap (λ b. if not b then Some reason.NoChannel else tests key (lane_of version.Three c items)) differ)
 
 or_true : (b : Bool) → (b || true) ≡ true
 or_true true = refl
@@ -259,10 +256,10 @@ content_heeded : (c : ChannelKey) (bytes : List ℕ) (items : List Item) → lis
     → heeded_refusal version.Three c (Content bytes) items ≡ content_tests bytes (lane_of version.Three c items)
 content_heeded c bytes items each =
     let tests : Bool → Bool → ℕ → Option Reason = λ other completed unread.
-      if other && not (is_accepted version.Three c items) then Some reason.NotAccepted
-      else if completed then Some reason.ContentAfterCompletion
-      else if nat_lt (window c items) (unread + length bytes) then Some reason.WindowExceeded
-      else None in
+    if other && not (is_accepted version.Three c items) then Some reason.NotAccepted
+    else if completed then Some reason.ContentAfterCompletion
+    else if nat_lt (window c items) (unread + length bytes) then Some reason.WindowExceeded
+    else None in
     λ i. tests (or_true c.own i) (is_completed-built version.Three c items each i) (unread_length-built version.Three c items each i)
 
 pub built_refusal_is : (key : ChannelKey) (body : FrameBody) (items : List Item) → IsBuilt items

@@ -1,23 +1,22 @@
 -- What the items show of channels is what an end of version 3 shows of the one that it keeps.
-use Rattle.std.proofs.Common.{◌≡◌, ℕ, ◌-◌, List, [], ◌∷◌, ◌++◌, length, Bool, true, false, Option, Some, None, refl, sym, ◌∙◌, ap, inl, inr, ◌⊎◌}
-use Rattle.std.specs.Prelude.{not, if◌then◌else◌, is_none, filter}
+use Rattle.std.proofs.Common.{◌≡◌, ℕ, ◌-◌, List, [], ◌∷◌, ◌++◌, length, Bool, true, false, Option, Some, None, refl, sym, ◌∙◌, ap, inl, inr}
+use Rattle.std.specs.Prelude.{not, if◌then◌else◌, filter}
 use Rattle.std.specs.List.{list_all}
 use Rattle.std.proofs.lemmas.Bool.{false≢true}
 use Rattle.wire_base.specs.declared.frame.Version.TheVariants as version
-use Rattle.wire_base.specs.declared.state.Cause.{Cause}
 use Rattle.mux_items.specs.declared.channel.ChannelKey.{ChannelKey}
 use Rattle.mux_items.specs.declared.channel.ChannelView.{ChannelView}
 use Rattle.mux_items.specs.declared.channel.Phase.{Phase}
 use Rattle.mux_items.specs.declared.channel.Phase.TheVariants as phase
 use Rattle.mux_items.specs.declared.channel.Tally.{Tally}
-use Rattle.mux_items.specs.Bodies.{ChannelTerminated, same_key}
+use Rattle.mux_items.specs.Bodies.{ChannelTerminated}
 use Rattle.mux_items.specs.Items.{Item, DidTerminate, Got, End, ended, is_running}
-use Rattle.mux_items.specs.Lists.{written, emitted, taken, handed, granted, is_cut, is_accepted, is_completed, is_terminated_by_peer, termination_emitted, phase_of, unread}
-use Rattle.mux_items.specs.Kept.{keys, is_known, is_kept}
+use Rattle.mux_items.specs.Lists.{written, emitted, taken, handed, granted, is_cut, is_accepted, is_terminated_by_peer, phase_of, unread}
+use Rattle.mux_items.specs.Kept.{keys, is_kept}
 use Rattle.mux_items.specs.Views.{pending_count, view_of, tally_of, by_id, known_keys}
-use Rattle.mux_end.specs.Lane.{Lane, lane_of, channel_of}
+use Rattle.mux_end.specs.Lane.{lane_of, channel_of}
 use Rattle.mux_end.specs.Stands.{IsBuilt, is_built_item, state_of}
-use Rattle.mux_end.specs.Tests.{is_running_state, lane_phase, unread_in, pending_in, shown_lane, lane_view, tally_in, lane_tally, lane_known}
+use Rattle.mux_end.specs.Tests.{lane_phase, pending_in, shown_lane, lane_view, tally_in, lane_tally, lane_known}
 use Rattle.mux_end.proofs.Plain.{same_key-refl, each_rest, is_kept-built, is_known-one, termination_emitted-built, is_completed-built, unread_length-built}
 use Rattle.mux_end.proofs.Lanes.{channel_none, channel_one, running_state}
 use Rattle.mux_end.proofs.Refuses.{keys_cases, channel_is, is_kept-one}
@@ -55,17 +54,17 @@ shown_if b view e = ap (λ b. if b then Some view else None) e
 pub view_is : (key : ChannelKey) (items : List Item) → IsBuilt items → view_of version.Three key items ≡ lane_view (state_of items) (channel_of version.Three items) key
 view_is key items built =
     channel_is (λ k. view_of version.Three k items) (λ channel k. lane_view (state_of items) channel k) key items built
-      (λ unknown. shown_if (is_kept version.Three key items) _ (is_kept-built version.Three key items built.each ∙ unknown))
-      (λ c one. shown_is c items built.each one ∙ ap (λ b. if b then Some (shown_lane (state_of items) (lane_of version.Three c items)) else None) (sym (same_key-refl c)))
-      (λ c differ. ap (λ b. if b then Some (shown_lane (state_of items) (lane_of version.Three c items)) else None) differ)
+    (λ unknown. shown_if (is_kept version.Three key items) _ (is_kept-built version.Three key items built.each ∙ unknown))
+    (λ c one. shown_is c items built.each one ∙ ap (λ b. if b then Some (shown_lane (state_of items) (lane_of version.Three c items)) else None) (sym (same_key-refl c)))
+    (λ c differ. ap (λ b. if b then Some (shown_lane (state_of items) (lane_of version.Three c items)) else None) differ)
 
 pub tally_is : (key : ChannelKey) (items : List Item) → IsBuilt items → tally_of version.Three key items ≡ lane_tally (channel_of version.Three items) key
 tally_is key items built =
     let tally : Bool → Phase → ChannelKey → Option Tally = λ known p k. if known then (let t : Tally = record { phase = p; written = length (written k items); emitted = emitted version.Three k items; taken = length (taken version.Three k items); handed = handed version.Three k items } in Some t) else None in
     channel_is (λ k. tally_of version.Three k items) (λ channel k. lane_tally channel k) key items built
-      (λ unknown. ap (λ b. tally b (phase_of version.Three key items) key) unknown)
-      (λ c one. λ i. tally ((is_known-one c c items one) i) (phase_is c items built.each i) c)
-      (λ c differ. ap (λ b. if b then Some (tally_in (lane_of version.Three c items)) else None) differ)
+    (λ unknown. ap (λ b. tally b (phase_of version.Three key items) key) unknown)
+    (λ c one. λ i. tally ((is_known-one c c items one) i) (phase_is c items built.each i) c)
+    (λ c differ. ap (λ b. if b then Some (tally_in (lane_of version.Three c items)) else None) differ)
 
 one_side : (own : Bool) (c : ChannelKey) → by_id (if own then c ∷ [] else []) ++ by_id (if not own then c ∷ [] else []) ≡ c ∷ []
 one_side true c = refl

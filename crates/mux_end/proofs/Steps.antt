@@ -1,37 +1,31 @@
 -- What an end of version 3 stands for after one more item.
-use Rattle.std.proofs.Common.{◌≡◌, ◌≤◌, ◌<◌, ℕ, ◌+◌, List, [], ◌∷◌, ◌++◌, length, take, drop, Bool, true, false, Option, Some, None, Result, Ok, Err, refl, sym, ◌∙◌, ap, subst, arith, inl, inr, ◌⊎◌}
-use Rattle.std.specs.Prelude.{not, ◌&&◌, nat_le, if◌then◌else◌, is_none}
-use Rattle.std.specs.List.{list_all}
+use Rattle.std.proofs.Common.{◌≡◌, ◌≤◌, ℕ, ◌+◌, List, [], ◌∷◌, ◌++◌, length, drop, Bool, true, false, Option, Some, None, refl, sym, ◌∙◌, ap, subst, arith}
+use Rattle.std.specs.Prelude.{nat_le, if◌then◌else◌, is_none}
 use Rattle.std.proofs.lemmas.List.{append-nil}
 use Rattle.std.proofs.lemmas.Bool.{and_right, lt-leb}
-use Rattle.wire_base.specs.declared.frame.Version.{Version}
 use Rattle.wire_base.specs.declared.frame.Version.TheVariants as version
 use Rattle.wire_base.specs.declared.refusal.Refusal.{Refusal}
 use Rattle.wire_base.specs.declared.reason.Reason.{Reason}
 use Rattle.wire_base.specs.declared.reason.Reason.TheVariants as reason
-use Rattle.wire_base.specs.declared.fault.CallFault.{CallFault}
-use Rattle.wire_base.specs.declared.fault.CallFault.TheVariants as fault
 use Rattle.wire_base.specs.declared.state.Cause.{Cause}
 use Rattle.wire_base.specs.declared.state.EndState.{EndState}
 use Rattle.wire_base.specs.declared.state.EndState.TheVariants as state
 use Rattle.mux_items.specs.declared.channel.ChannelKey.{ChannelKey}
 use Rattle.mux_items.specs.Bodies.{FrameBody, Offer, OfferAccepted, Content, ContentWritingCompleted, ChannelTerminated, ContentProcessed, ChannelFrame, frame_on, frame_texts, same_key, window_of}
 use Rattle.mux_items.specs.Items.{Item, DidOffer, DidAccept, DidWrite, DidRead, Got, End, ended, is_running}
-use Rattle.mux_items.specs.Lists.{termination_emitted, unread}
 use Rattle.mux_items.specs.Kept.{keys, is_known, kept_keys, next_key, most_channels}
 use Rattle.mux_items.specs.Refusals.{offer_refusal, accept_refusal, write_refusal, read_refusal, later_refusal, frame_refusal}
 use Rattle.mux_items.specs.Views.{view_of, tally_of, known_keys}
-use Rattle.mux_items.specs.Due.{content_frames, due}
-use Rattle.mux_items.specs.Applying.{is_offer, is_refused_room, heeded_event, frame_event, event_of, Allowed}
-use Rattle.mux_end.specs.Lane.{Lane, lane_of, lane_of_keys, channel_of, offered_lane, heard_lane, sendable_bytes, with_emitted, accepted_lane, answered_lane, written_lane, taken_lane, credited_lane, read_lane}
-use Rattle.mux_end.specs.Stands.{EndValue, IsBuilt, MuxStands, is_built_body, is_built_item, state_by, state_of}
-use Rattle.mux_end.specs.Replies.{Adds, CallAnswers, built_refusal, second_offer, reason_or}
+use Rattle.mux_items.specs.Due.{due}
+use Rattle.mux_items.specs.Applying.{is_offer, is_refused_room, Allowed}
+use Rattle.mux_end.specs.Lane.{Lane, lane_of, lane_of_keys, channel_of, heard_lane, accepted_lane, answered_lane, written_lane, taken_lane, credited_lane, read_lane}
+use Rattle.mux_end.specs.Stands.{EndValue, IsBuilt, MuxStands, state_by, state_of}
+use Rattle.mux_end.specs.Replies.{Adds, built_refusal, reason_or}
 use Rattle.mux_end.specs.Tests.{unless_over, peer_offer_tests, lane_offer_refusal, lane_accept_refusal, lane_write_refusal, lane_read_refusal, lane_frame_refusal, lane_view, lane_tally, lane_known, read_frames}
 use Rattle.mux_end.specs.Ends.{with_state, with_frames, with_lane, emits, by_lane, on_channel, offered_end, accepted_end, written_end, read_end, end_after, with_applied}
-use Rattle.mux_end.proofs.Plain.{same_key-refl, same_key-true, is_known-one, termination_emitted-built, unread-built}
-use Rattle.mux_end.proofs.Tells.{accept_tells, write_tells, read_tells, offer_tells, peer_offer_tells, acceptance_tells, later_tells, known_one, unknown}
-use Rattle.mux_end.proofs.Lanes.{channel_none, channel_one, lane_offered, lane_heard, lane_accepted, lane_answered, lane_wrote, lane_read, lane_took, lane_credited, due_offered, due_heard, due_accepted, due_answered, due_wrote, due_read, due_took, due_credited, next_key-none}
-use Rattle.mux_end.proofs.Refuses.{keys_cases, kept_keys_few, offer_refusal_is, accept_refusal_is, write_refusal_is, read_refusal_is, built_refusal_is}
+use Rattle.mux_end.proofs.Tells.{accept_tells, write_tells, read_tells, later_tells, known_one, unknown}
+use Rattle.mux_end.proofs.Lanes.{channel_one, lane_offered, lane_heard, lane_accepted, lane_answered, lane_wrote, lane_read, lane_took, lane_credited, due_offered, due_heard, due_accepted, due_answered, due_wrote, due_read, due_took, due_credited, next_key-none}
+use Rattle.mux_end.proofs.Refuses.{kept_keys_few, offer_refusal_is, accept_refusal_is, write_refusal_is, read_refusal_is, built_refusal_is}
 use Rattle.mux_end.proofs.Shows.{view_is, tally_is, known_is}
 
 -- what an end of version 3 stands for, at that version
@@ -135,9 +129,9 @@ accepts_same : (old : EndValue) (items : List Item) (at : ℕ) (rest : List ℕ)
 accepts_same old items at rest c size s three one ok =
     let running = (accept_tells version.Three c size items s.built.each ok).0 in
     adds_by old (emits (frame_on c (OfferAccepted (Some size)) ∷ []) (accepted_lane size (lane_of version.Three c items)) old) items at rest (DidAccept c size) _ s three
-      (record { each = s.built.each; one = s.built.one }) (ok, allowed_at old items at rest s three)
-      (ap Some (sym (lane_accepted c size items s.built.each running)) ∙ sym (channel_one version.Three c (DidAccept c size ∷ items) one)) s.state
-      (due_accepted c size items s.built.each running) refl refl refl refl refl
+    (record { each = s.built.each; one = s.built.one }) (ok, allowed_at old items at rest s three)
+    (ap Some (sym (lane_accepted c size items s.built.each running)) ∙ sym (channel_one version.Three c (DidAccept c size ∷ items) one)) s.state
+    (due_accepted c size items s.built.each running) refl refl refl refl refl
 
 writes_same : (old : EndValue) (items : List Item) (at : ℕ) (rest : List ℕ) (c : ChannelKey) (bytes : List ℕ) → MuxStands old items at rest → old.version ≡ version.Three → keys items ≡ c ∷ []
     → write_refusal version.Three c bytes items ≡ None
@@ -145,18 +139,18 @@ writes_same : (old : EndValue) (items : List Item) (at : ℕ) (rest : List ℕ) 
 writes_same old items at rest c bytes s three one ok =
     let running = (write_tells version.Three c bytes items s.built.each ok).0 in
     adds_by old (emits [] (written_lane bytes (lane_of version.Three c items)) old) items at rest (DidWrite c bytes) _ s three
-      (record { each = s.built.each; one = s.built.one }) (ok, allowed_at old items at rest s three)
-      (ap Some (sym (lane_wrote c bytes items s.built.each running)) ∙ sym (channel_one version.Three c (DidWrite c bytes ∷ items) one)) s.state
-      (due_wrote c bytes items s.built.each running) refl refl refl refl refl
+    (record { each = s.built.each; one = s.built.one }) (ok, allowed_at old items at rest s three)
+    (ap Some (sym (lane_wrote c bytes items s.built.each running)) ∙ sym (channel_one version.Three c (DidWrite c bytes ∷ items) one)) s.state
+    (due_wrote c bytes items s.built.each running) refl refl refl refl refl
 
 reads_same : (old : EndValue) (items : List Item) (at : ℕ) (rest : List ℕ) (c : ChannelKey) (max : ℕ) → MuxStands old items at rest → old.version ≡ version.Three → keys items ≡ c ∷ []
     → read_refusal version.Three c items ≡ None
     → Adds old (with_lane (read_lane max (lane_of version.Three c items)) (with_frames (read_frames old.state max (lane_of version.Three c items)) old)) items at rest (DidRead c max)
 reads_same old items at rest c max s three one ok =
     adds_by old (with_lane (read_lane max (lane_of version.Three c items)) (with_frames (read_frames old.state max (lane_of version.Three c items)) old)) items at rest (DidRead c max) _ s three
-      (record { each = s.built.each; one = s.built.one }) (ok, allowed_at old items at rest s three)
-      (ap Some (sym (lane_read c max items s.built.each)) ∙ sym (channel_one version.Three c (DidRead c max ∷ items) one)) s.state
-      (due_read c max items s.built.each ∙ ap (λ state. read_frames state max (lane_of version.Three c items)) (sym s.state)) refl refl refl refl refl
+    (record { each = s.built.each; one = s.built.one }) (ok, allowed_at old items at rest s three)
+    (ap Some (sym (lane_read c max items s.built.each)) ∙ sym (channel_one version.Three c (DidRead c max ∷ items) one)) s.state
+    (due_read c max items s.built.each ∙ ap (λ state. read_frames state max (lane_of version.Three c items)) (sym s.state)) refl refl refl refl refl
 
 -- the same for the channel as it is kept, and a key that is its own
 at_lane : (P : ChannelKey → Lane → Type 0) (key : ChannelKey) (items : List Item) (lane : Lane) (c : ChannelKey) → keys items ≡ c ∷ [] → lane ≡ lane_of version.Three c items → is_known key items ≡ true
@@ -170,7 +164,7 @@ accepts_lane old items at rest lane key size s three is ok =
     let w = keys_one old items at rest lane s three is in
     let known = (accept_tells version.Three key size items s.built.each ok).1 in
     at_lane (λ k l. accept_refusal version.Three k size items ≡ None → Adds old (emits (frame_on l.key (OfferAccepted (Some size)) ∷ []) (accepted_lane size l) old) items at rest (DidAccept k size)) key items lane w.0 w.1 w.2 known
-      (accepts_same old items at rest w.0 size s three w.1) ok
+    (accepts_same old items at rest w.0 size s three w.1) ok
 
 writes_lane : (old : EndValue) (items : List Item) (at : ℕ) (rest : List ℕ) (lane : Lane) (key : ChannelKey) (bytes : List ℕ) → MuxStands old items at rest → old.version ≡ version.Three → old.channel ≡ Some lane
     → write_refusal version.Three key bytes items ≡ None
@@ -179,7 +173,7 @@ writes_lane old items at rest lane key bytes s three is ok =
     let w = keys_one old items at rest lane s three is in
     let known = (write_tells version.Three key bytes items s.built.each ok).1 in
     at_lane (λ k l. write_refusal version.Three k bytes items ≡ None → Adds old (emits [] (written_lane bytes l) old) items at rest (DidWrite k bytes)) key items lane w.0 w.1 w.2 known
-      (writes_same old items at rest w.0 bytes s three w.1) ok
+    (writes_same old items at rest w.0 bytes s three w.1) ok
 
 reads_lane : (old : EndValue) (items : List Item) (at : ℕ) (rest : List ℕ) (lane : Lane) (key : ChannelKey) (max : ℕ) → MuxStands old items at rest → old.version ≡ version.Three → old.channel ≡ Some lane
     → read_refusal version.Three key items ≡ None
@@ -188,7 +182,7 @@ reads_lane old items at rest lane key max s three is ok =
     let w = keys_one old items at rest lane s three is in
     let known = (read_tells version.Three key items s.built.each ok).0 in
     at_lane (λ k l. read_refusal version.Three k items ≡ None → Adds old (with_lane (read_lane max l) (with_frames (read_frames old.state max l) old)) items at rest (DidRead k max)) key items lane w.0 w.1 w.2 known
-      (reads_same old items at rest w.0 max s three w.1) ok
+    (reads_same old items at rest w.0 max s three w.1) ok
 
 -- without a channel no key is known
 no_lane : {A : Type 0} (old : EndValue) (items : List Item) (at : ℕ) (rest : List ℕ) (key : ChannelKey) → MuxStands old items at rest → old.version ≡ version.Three → old.channel ≡ None → is_known key items ≡ true → A
@@ -199,24 +193,24 @@ pub adds_accepted : (old : EndValue) (items : List Item) (at : ℕ) (rest : List
 adds_accepted old items at rest key size s three ok =
     let none : accept_refusal version.Three key size items ≡ None = ap (λ v. accept_refusal v key size items) (sym three) ∙ (refuses_accept old items at rest key size s three ∙ ok) in
     by_channel (λ channel. Adds old (by_lane channel old (λ lane. emits (frame_on lane.key (OfferAccepted (Some size)) ∷ []) (accepted_lane size lane) old)) items at rest (DidAccept key size)) old.channel
-      (λ e. no_lane old items at rest key s three e (accept_tells version.Three key size items s.built.each none).1)
-      (λ lane e. accepts_lane old items at rest lane key size s three e none)
+    (λ e. no_lane old items at rest key s three e (accept_tells version.Three key size items s.built.each none).1)
+    (λ lane e. accepts_lane old items at rest lane key size s three e none)
 
 pub adds_written : (old : EndValue) (items : List Item) (at : ℕ) (rest : List ℕ) (key : ChannelKey) (bytes : List ℕ) → MuxStands old items at rest → old.version ≡ version.Three
     → lane_write_refusal old.state old.channel key bytes ≡ None → Adds old (written_end bytes old) items at rest (DidWrite key bytes)
 adds_written old items at rest key bytes s three ok =
     let none : write_refusal version.Three key bytes items ≡ None = ap (λ v. write_refusal v key bytes items) (sym three) ∙ (refuses_write old items at rest key bytes s three ∙ ok) in
     by_channel (λ channel. Adds old (by_lane channel old (λ lane. emits [] (written_lane bytes lane) old)) items at rest (DidWrite key bytes)) old.channel
-      (λ e. no_lane old items at rest key s three e (write_tells version.Three key bytes items s.built.each none).1)
-      (λ lane e. writes_lane old items at rest lane key bytes s three e none)
+    (λ e. no_lane old items at rest key s three e (write_tells version.Three key bytes items s.built.each none).1)
+    (λ lane e. writes_lane old items at rest lane key bytes s three e none)
 
 pub adds_read : (old : EndValue) (items : List Item) (at : ℕ) (rest : List ℕ) (key : ChannelKey) (max : ℕ) → MuxStands old items at rest → old.version ≡ version.Three
     → lane_read_refusal old.state old.channel key ≡ None → Adds old (read_end max old) items at rest (DidRead key max)
 adds_read old items at rest key max s three ok =
     let none : read_refusal version.Three key items ≡ None = ap (λ v. read_refusal v key items) (sym three) ∙ (refuses_read old items at rest key s three ∙ ok) in
     by_channel (λ channel. Adds old (by_lane channel old (λ lane. with_lane (read_lane max lane) (with_frames (read_frames old.state max lane) old))) items at rest (DidRead key max)) old.channel
-      (λ e. no_lane old items at rest key s three e (read_tells version.Three key items s.built.each none).0)
-      (λ lane e. reads_lane old items at rest lane key max s three e none)
+    (λ e. no_lane old items at rest key s three e (read_tells version.Three key items s.built.each none).0)
+    (λ lane e. reads_lane old items at rest lane key max s three e none)
 
 -- frames of the peer
 running_by : (e : Option Cause) → state_by e ≡ state.Running → is_none e ≡ true
@@ -260,36 +254,36 @@ hears old items at rest place key name size s three run none ok =
     let allowed = allowed_at old items at rest s three in
     let good = (reason_or-none (frame_refusal version.Three key (Offer name size) items) _ (built_none old items at rest key (Offer name size) s three ok)).0 in
     adds_by old (with_lane (heard_lane key (window_of size)) old) items at rest (Got place key (Offer name size)) [] s three
-      (record { each = s.built.each; one = let few = ap length empty in omega arith }) (running, good, room_left (Offer name size) items s.built, allowed)
-      (ap Some (sym (lane_heard place key name size items s.built.each allowed running empty))) s.state
-      (due_heard place key name size items s.built.each allowed running empty) (quiet old) refl refl refl refl
+    (record { each = s.built.each; one = let few = ap length empty in omega arith }) (running, good, room_left (Offer name size) items s.built, allowed)
+    (ap Some (sym (lane_heard place key name size items s.built.each allowed running empty))) s.state
+    (due_heard place key name size items s.built.each allowed running empty) (quiet old) refl refl refl refl
 
 answers_same : (old : EndValue) (items : List Item) (at : ℕ) (rest : List ℕ) (place : ℕ) (c : ChannelKey) (size : Option ℕ) → MuxStands old items at rest → old.version ≡ version.Three → is_running items ≡ true → keys items ≡ c ∷ []
     → frame_refusal version.Three c (OfferAccepted size) items ≡ None
     → Adds old (emits [] (answered_lane (window_of size) (lane_of version.Three c items)) old) items at rest (Got place c (OfferAccepted size))
 answers_same old items at rest place c size s three running one ok =
     adds_by old (emits [] (answered_lane (window_of size) (lane_of version.Three c items)) old) items at rest (Got place c (OfferAccepted size)) _ s three
-      (record { each = s.built.each; one = s.built.one }) (running, ok, room_left (OfferAccepted size) items s.built, allowed_at old items at rest s three)
-      (ap Some (sym (lane_answered place c size items s.built.each running)) ∙ sym (channel_one version.Three c (Got place c (OfferAccepted size) ∷ items) one)) s.state
-      (due_answered place c size items s.built.each running) refl refl refl refl refl
+    (record { each = s.built.each; one = s.built.one }) (running, ok, room_left (OfferAccepted size) items s.built, allowed_at old items at rest s three)
+    (ap Some (sym (lane_answered place c size items s.built.each running)) ∙ sym (channel_one version.Three c (Got place c (OfferAccepted size) ∷ items) one)) s.state
+    (due_answered place c size items s.built.each running) refl refl refl refl refl
 
 takes_same : (old : EndValue) (items : List Item) (at : ℕ) (rest : List ℕ) (place : ℕ) (c : ChannelKey) (bytes : List ℕ) → MuxStands old items at rest → old.version ≡ version.Three → is_running items ≡ true → keys items ≡ c ∷ []
     → frame_refusal version.Three c (Content bytes) items ≡ None
     → Adds old (with_lane (taken_lane bytes (lane_of version.Three c items)) old) items at rest (Got place c (Content bytes))
 takes_same old items at rest place c bytes s three running one ok =
     adds_by old (with_lane (taken_lane bytes (lane_of version.Three c items)) old) items at rest (Got place c (Content bytes)) [] s three
-      (record { each = s.built.each; one = s.built.one }) (running, ok, room_left (Content bytes) items s.built, allowed_at old items at rest s three)
-      (ap Some (sym (lane_took place c bytes items s.built.each running)) ∙ sym (channel_one version.Three c (Got place c (Content bytes) ∷ items) one)) s.state
-      (due_took place c bytes items s.built.each running) (quiet old) refl refl refl refl
+    (record { each = s.built.each; one = s.built.one }) (running, ok, room_left (Content bytes) items s.built, allowed_at old items at rest s three)
+    (ap Some (sym (lane_took place c bytes items s.built.each running)) ∙ sym (channel_one version.Three c (Got place c (Content bytes) ∷ items) one)) s.state
+    (due_took place c bytes items s.built.each running) (quiet old) refl refl refl refl
 
 credits_same : (old : EndValue) (items : List Item) (at : ℕ) (rest : List ℕ) (place : ℕ) (c : ChannelKey) (count : ℕ) → MuxStands old items at rest → old.version ≡ version.Three → is_running items ≡ true → keys items ≡ c ∷ []
     → frame_refusal version.Three c (ContentProcessed count) items ≡ None
     → Adds old (emits [] (credited_lane count (lane_of version.Three c items)) old) items at rest (Got place c (ContentProcessed count))
 credits_same old items at rest place c count s three running one ok =
     adds_by old (emits [] (credited_lane count (lane_of version.Three c items)) old) items at rest (Got place c (ContentProcessed count)) _ s three
-      (record { each = s.built.each; one = s.built.one }) (running, ok, room_left (ContentProcessed count) items s.built, allowed_at old items at rest s three)
-      (ap Some (sym (lane_credited place c count items s.built.each running)) ∙ sym (channel_one version.Three c (Got place c (ContentProcessed count) ∷ items) one)) s.state
-      (due_credited place c count items s.built.each running) refl refl refl refl refl
+    (record { each = s.built.each; one = s.built.one }) (running, ok, room_left (ContentProcessed count) items s.built, allowed_at old items at rest s three)
+    (ap Some (sym (lane_credited place c count items s.built.each running)) ∙ sym (channel_one version.Three c (Got place c (ContentProcessed count) ∷ items) one)) s.state
+    (due_credited place c count items s.built.each running) refl refl refl refl refl
 
 -- a frame on the channel, by what it makes of the lane
 on_kept : (old : EndValue) (items : List Item) (at : ℕ) (rest : List ℕ) (place : ℕ) (key : ChannelKey) (body : FrameBody) (change : Lane → EndValue) → MuxStands old items at rest → old.version ≡ version.Three
@@ -297,11 +291,11 @@ on_kept : (old : EndValue) (items : List Item) (at : ℕ) (rest : List ℕ) (pla
     → Adds old (on_channel old change) items at rest (Got place key body)
 on_kept old items at rest place key body change s three known same =
     by_channel (λ channel. Adds old (by_lane channel old change) items at rest (Got place key body)) old.channel
-      (λ e. no_lane old items at rest key s three e known)
-      (λ lane e.
-        let w = keys_one old items at rest lane s three e in
-        let is = known_one key w.0 items w.1 known in
-        subst (λ l. Adds old (change l) items at rest (Got place key body)) (sym w.2) (subst (λ k. Adds old (change (lane_of version.Three w.0 items)) items at rest (Got place k body)) (sym is) (same w.0 w.1 is)))
+    (λ e. no_lane old items at rest key s three e known)
+    (λ lane e.
+    let w = keys_one old items at rest lane s three e in
+    let is = known_one key w.0 items w.1 known in
+    subst (λ l. Adds old (change l) items at rest (Got place key body)) (sym w.2) (subst (λ k. Adds old (change (lane_of version.Three w.0 items)) items at rest (Got place k body)) (sym is) (same w.0 w.1 is)))
 
 later_known : (old : EndValue) (items : List Item) (at : ℕ) (rest : List ℕ) (key : ChannelKey) (body : FrameBody) → MuxStands old items at rest
     → later_refusal version.Three key body items ≡ None → is_known key items ≡ true
@@ -319,17 +313,17 @@ adds_taken old items at rest place key (Offer name size) s three run ok =
 adds_taken old items at rest place key (OfferAccepted size) s three run ok =
     let good = (reason_or-none (frame_refusal version.Three key (OfferAccepted size) items) None (built_none old items at rest key (OfferAccepted size) s three ok)).0 in
     on_kept old items at rest place key (OfferAccepted size) (λ lane. emits [] (answered_lane (window_of size) lane) old) s three (later_known old items at rest key (OfferAccepted size) s good)
-      (λ c one is. answers_same old items at rest place c size s three (running_of old items at rest s run) one (ap (λ k. frame_refusal version.Three k (OfferAccepted size) items) (sym is) ∙ good))
+    (λ c one is. answers_same old items at rest place c size s three (running_of old items at rest s run) one (ap (λ k. frame_refusal version.Three k (OfferAccepted size) items) (sym is) ∙ good))
 adds_taken old items at rest place key (Content bytes) s three run ok =
     let good = (reason_or-none (frame_refusal version.Three key (Content bytes) items) None (built_none old items at rest key (Content bytes) s three ok)).0 in
     on_kept old items at rest place key (Content bytes) (λ lane. with_lane (taken_lane bytes lane) old) s three (later_known old items at rest key (Content bytes) s good)
-      (λ c one is. takes_same old items at rest place c bytes s three (running_of old items at rest s run) one (ap (λ k. frame_refusal version.Three k (Content bytes) items) (sym is) ∙ good))
+    (λ c one is. takes_same old items at rest place c bytes s three (running_of old items at rest s run) one (ap (λ k. frame_refusal version.Three k (Content bytes) items) (sym is) ∙ good))
 adds_taken old items at rest place key ContentWritingCompleted s three run ok = absurd (cc)
 adds_taken old items at rest place key ChannelTerminated s three run ok = absurd (cc)
 adds_taken old items at rest place key (ContentProcessed count) s three run ok =
     let good = (reason_or-none (frame_refusal version.Three key (ContentProcessed count) items) None (built_none old items at rest key (ContentProcessed count) s three ok)).0 in
     on_kept old items at rest place key (ContentProcessed count) (λ lane. emits [] (credited_lane count lane) old) s three (later_known old items at rest key (ContentProcessed count) s good)
-      (λ c one is. credits_same old items at rest place c count s three (running_of old items at rest s run) one (ap (λ k. frame_refusal version.Three k (ContentProcessed count) items) (sym is) ∙ good))
+    (λ c one is. credits_same old items at rest place c count s three (running_of old items at rest s run) one (ap (λ k. frame_refusal version.Three k (ContentProcessed count) items) (sym is) ∙ good))
 
 -- the frame's bytes go from the front
 pub adds_applied : (old new : EndValue) (items : List Item) (at : ℕ) (rest : List ℕ) (item : Item) (size : ℕ) → Adds old new items at rest item → Adds old (with_applied size new) items (at + size) (drop size rest) item
@@ -356,8 +350,8 @@ pub adds_ended : (old : EndValue) (items : List Item) (at : ℕ) (rest : List �
     → Adds old (with_state (state.Ended cause) old) items at rest (End cause)
 adds_ended old items at rest cause s three run =
     adds_by old (with_state (state.Ended cause) old) items at rest (End cause) [] s three
-      (record { each = s.built.each; one = s.built.one }) (running_of old items at rest s run, allowed_at old items at rest s three)
-      (channel_at old items at rest s three ∙ channel_end cause (keys items) items) refl refl (quiet old) refl refl refl refl
+    (record { each = s.built.each; one = s.built.one }) (running_of old items at rest s run, allowed_at old items at rest s three)
+    (channel_at old items at rest s three ∙ channel_end cause (keys items) items) refl refl (quiet old) refl refl refl refl
 
 -- the first own offer
 pub next_key_is : (old : EndValue) (items : List Item) (at : ℕ) (rest : List ℕ) → MuxStands old items at rest → old.version ≡ version.Three → old.state ≡ state.Running → old.channel ≡ None
@@ -379,6 +373,6 @@ adds_offered old items at rest key name size s three none is ok =
     let allowed = allowed_at old items at rest s three in
     let good : offer_refusal version.Three name size items ≡ None = ap (λ v. offer_refusal v name size items) (sym three) ∙ (refuses_offer old items at rest name size s three ∙ ok) in
     adds_by old (offered_end key name size old) items at rest (DidOffer key name size) _ s three
-      (record { each = s.built.each; one = let few = ap length empty in omega arith }) (good, is ∙ sym (next_key_is old items at rest s three run none), allowed)
-      (ap Some (sym (lane_offered key name size items s.built.each allowed running empty))) s.state
-      (due_offered key name size items s.built.each allowed running empty) refl refl refl refl refl
+    (record { each = s.built.each; one = let few = ap length empty in omega arith }) (good, is ∙ sym (next_key_is old items at rest s three run none), allowed)
+    (ap Some (sym (lane_offered key name size items s.built.each allowed running empty))) s.state
+    (due_offered key name size items s.built.each allowed running empty) refl refl refl refl refl

@@ -1,25 +1,23 @@
 -- What an accepted call or an applied frame tells, and the bounds that follow.
-use Rattle.std.proofs.Common.{◌≡◌, ◌≤◌, ◌<◌, ℕ, ◌+◌, ◌-◌, min, List, [], ◌∷◌, ◌++◌, length, drop, Bool, true, false, Option, Some, None, refl, sym, ◌∙◌, ap, subst, arith, inl, inr, length-append, length-drop}
-use Rattle.std.specs.Prelude.{not, ◌&&◌, ◌||◌, nat_lt, nat_le, ◌==◌, if◌then◌else◌, is_none}
-use Rattle.std.specs.List.{list_all, list_any}
-use Rattle.std.proofs.lemmas.Bool.{and_parts, or_parts, or_from, cases_Bool, false≢true, ltb-false, ltb-true, cond_both, not-false}
-use Rattle.std.proofs.lemmas.Bool.Decides.{nat_tests}
+use Rattle.std.proofs.Common.{◌≡◌, ◌≤◌, ℕ, ◌+◌, ◌-◌, min, List, [], ◌∷◌, ◌++◌, length, Bool, true, false, Option, Some, None, refl, sym, ◌∙◌, ap, subst, arith, length-append}
+use Rattle.std.specs.Prelude.{not, ◌&&◌, nat_lt, if◌then◌else◌, is_none}
+use Rattle.std.specs.List.{list_all}
+use Rattle.std.proofs.lemmas.Bool.{or_parts, false≢true, ltb-false, cond_both, not-false}
 use Rattle.wire_base.specs.declared.frame.Version.{Version}
 use Rattle.wire_base.specs.declared.frame.Version.TheVariants as version
 use Rattle.wire_base.specs.declared.refusal.Refusal.{Refusal}
 use Rattle.wire_base.specs.declared.refusal.Refusal.TheVariants as refusal
-use Rattle.wire_base.specs.declared.reason.Reason.{Reason}
 use Rattle.wire_base.specs.declared.reason.Reason.TheVariants as reason
 use Rattle.wire_base.specs.declared.state.Cause.{Cause}
 use Rattle.mux_items.specs.declared.channel.ChannelKey.{ChannelKey}
 use Rattle.mux_items.specs.Bodies.{FrameBody, Offer, OfferAccepted, Content, ContentWritingCompleted, ChannelTerminated, ContentProcessed, same_key, window_of, is_one}
 use Rattle.mux_items.specs.Items.{Item, Hello, DidOffer, DidAccept, DidWrite, DidRead, DidComplete, DidTerminate, Got, Rejected, End, ended, is_running}
-use Rattle.mux_items.specs.Lists.{written, window, is_offered, is_cut, before_cut, is_accepted_in, granted_in, emitted, termination_emitted, heeds, taken, is_accepted, is_completed, acknowledged, granted, is_dropped, unread_count, handed, unread, is_closed, has_completed}
-use Rattle.mux_items.specs.Kept.{keys, is_known, is_kept, kept_keys, own_windows, own_offers, most_channels}
-use Rattle.mux_items.specs.Refusals.{is_ready, unless_ended, most_windows, is_bad_window, offer_refusal, accept_refusal, is_unaccepted, open_refusal, or_else, writing_refusal, most_bytes, write_refusal, read_refusal, is_early, is_above_window, heeded_refusal, later_refusal, frame_refusal}
+use Rattle.mux_items.specs.Lists.{written, window, is_offered, is_cut, before_cut, is_accepted_in, granted_in, emitted, termination_emitted, heeds, taken, is_accepted, is_completed, acknowledged, granted, is_dropped, unread_count, handed, unread}
+use Rattle.mux_items.specs.Kept.{keys, is_known, is_kept}
+use Rattle.mux_items.specs.Refusals.{is_ready, unless_ended, is_bad_window, offer_refusal, accept_refusal, is_unaccepted, open_refusal, or_else, writing_refusal, most_bytes, write_refusal, read_refusal, is_early, is_above_window, heeded_refusal, later_refusal, frame_refusal}
 use Rattle.mux_items.specs.Applying.{Allowed}
-use Rattle.mux_end.specs.Stands.{is_built_body, is_built_item}
-use Rattle.mux_end.proofs.Plain.{same_key-refl, same_key-true, each_rest, is_kept-built, is_known-none, is_known-one, is_offered-built, termination_emitted-built, has_completed-built, unread_length-built, emitted-running, emitted_by, emitted_by_read, accepted_by_peer, granted_by_offer, granted_by_acceptance, granted_by_credit, acknowledged_by_credit, taken_by_content}
+use Rattle.mux_end.specs.Stands.{is_built_item}
+use Rattle.mux_end.proofs.Plain.{same_key-true, each_rest, is_kept-built, is_known-none, is_known-one, is_offered-built, termination_emitted-built, unread_length-built, emitted-running, emitted_by, emitted_by_read, acknowledged_by_credit}
 
 -- a chain of tests that refuses nothing
 pub none_then : {A : Type 0} (b : Bool) (r : A) (x : Option A) → (if b then Some r else x) ≡ None → (b ≡ false) × (x ≡ None)
@@ -96,9 +94,10 @@ peer_offer_tells v c name size items e =
 pub later_tells : (v : Version) (c : ChannelKey) (body : FrameBody) (items : List Item) → list_all is_built_item items ≡ true → later_refusal v c body items ≡ None
     → (is_known c items ≡ true) × (heeded_refusal v c body items ≡ None)
 later_tells v c body items each e =
-    let offered = none_then (not (is_offered c items)) reason.NoChannel _ e in
-    (sym (is_offered-built c items each) ∙ not-false (is_offered c items) offered.0,
-     sym (ap (λ b. if b then None else heeded_refusal v c body items) (termination_emitted-built v c items each)) ∙ offered.1)
+    let offered = none_then (not (is_offered c items)) reason.NoChannel _ e in (
+      sym (is_offered-built c items each) ∙ not-false (is_offered c items) offered.0,
+      sym (ap (λ b. if b then None else heeded_refusal v c body items) (termination_emitted-built v c items each)) ∙ offered.1,
+    )
 
 pub acceptance_tells : (v : Version) (c : ChannelKey) (size : Option ℕ) (items : List Item) → list_all is_built_item items ≡ true → frame_refusal v c (OfferAccepted size) items ≡ None
     → (is_known c items ≡ true) × (c.own ≡ true) × (is_accepted v c items ≡ false)
@@ -214,12 +213,12 @@ acknowledged_small c (Got place key (ContentProcessed count) ∷ items) each a =
     let grows = emitted_grows c (Got place key (ContentProcessed count)) items each a in
     let before = acknowledged_small c items rest a.3 in
     rw (acknowledged_by_credit version.Three c key place count items rest)
-      (cond_both (same_key key c) (acknowledged version.Three c items + count) (acknowledged version.Three c items) (λ n. n ≤ emitted version.Three c (Got place key (ContentProcessed count) ∷ items))
-        (λ same.
-          let within = (processed_tells version.Three key count items rest a.1).1 in
-          let here = subst (λ k. acknowledged version.Three k items + count ≤ emitted version.Three k items) (same_key-true key c same) within in
-          omega arith)
-        (λ differ. omega arith))
+    (cond_both (same_key key c) (acknowledged version.Three c items + count) (acknowledged version.Three c items) (λ n. n ≤ emitted version.Three c (Got place key (ContentProcessed count) ∷ items))
+    (λ same.
+    let within = (processed_tells version.Three key count items rest a.1).1 in
+    let here = subst (λ k. acknowledged version.Three k items + count ≤ emitted version.Three k items) (same_key-true key c same) within in
+    omega arith)
+    (λ differ. omega arith))
 acknowledged_small c (item ∷ items) each a =
     let grows = emitted_grows c item items each a in
     let before = acknowledged_small c items (each_rest item items each) (allowed_rest version.Three item items a) in
@@ -257,11 +256,11 @@ written_small v c (DidWrite key bytes ∷ items) each a =
     let rest = each_rest (DidWrite key bytes) items each in
     let before = written_small v c items rest a.1 in
     cond_both (same_key key c) (written c items ++ bytes) (written c items) (λ ws. length ws ≤ most_bytes)
-      (λ same.
-        let room = (write_tells v key bytes items rest a.0).3 in
-        let here = subst (λ k. length (written k items) + length bytes ≤ most_bytes) (same_key-true key c same) room in
-        omega (arith, length-append (written c items) bytes))
-      (λ differ. before)
+    (λ same.
+    let room = (write_tells v key bytes items rest a.0).3 in
+    let here = subst (λ k. length (written k items) + length bytes ≤ most_bytes) (same_key-true key c same) room in
+    omega (arith, length-append (written c items) bytes))
+    (λ differ. before)
 written_small v c (item ∷ items) each a = written_small v c items (each_rest item items each) (allowed_rest v item items a)
 
 -- no more is handed over than was taken
@@ -270,8 +269,8 @@ handed_small v c [] = omega arith
 handed_small v c (DidRead key max ∷ items) =
     let before = handed_small v c items in
     cond_both (same_key key c) (handed v c items + min max (unread_count (is_dropped v c items) (length (taken v c items)) (handed v c items))) (handed v c items) (λ n. n ≤ length (taken v c items))
-      (λ same. let count = unread_few (is_dropped v c items) (length (taken v c items)) (handed v c items) in omega arith)
-      (λ differ. before)
+    (λ same. let count = unread_few (is_dropped v c items) (length (taken v c items)) (handed v c items) in omega arith)
+    (λ differ. before)
   where
     unread_few : (dropped : Bool) (took moved : ℕ) → unread_count dropped took moved ≤ took - moved
     unread_few true took moved = omega arith
@@ -316,8 +315,8 @@ window_unaccepted v c (DidOffer key name size ∷ items) each a one peer waits =
     let none = no_keys (keys items) (omega arith) in
     let before = window_unknown v c items (each_rest (DidOffer key name size) items each) a.2 none in
     cond_both (same_key key c) (window c items + size) (window c items) (λ n. n ≡ 0)
-      (λ same. absurd (false≢true (sym peer ∙ (ap (λ (k : ChannelKey). k.own) (sym (same_key-true key c same)) ∙ ap (λ (k : ChannelKey). k.own) a.1))))
-      (λ differ. before)
+    (λ same. absurd (false≢true (sym peer ∙ (ap (λ (k : ChannelKey). k.own) (sym (same_key-true key c same)) ∙ ap (λ (k : ChannelKey). k.own) a.1))))
+    (λ differ. before)
 window_unaccepted v c (DidAccept key size ∷ items) each a one peer waits =
     let parts = if_false (same_key key c) (is_accepted v c items) waits in
     let before = window_unaccepted v c items (each_rest (DidAccept key size) items each) a.1 one peer parts.1 in
@@ -340,8 +339,8 @@ window_small v c (DidAccept key size ∷ items) each a one =
     let small = window_small_by size tells.4 in
     let before = window_small v c items rest a.1 one in
     cond_both (same_key key c) (window c items + size) (window c items) (λ n. n ≤ 16777216)
-      (λ same.
-        let none = subst (λ k. window k items ≡ 0) (same_key-true key c same) (window_unaccepted v key items rest a.1 one tells.2 tells.3) in
-        omega arith)
-      (λ differ. before)
+    (λ same.
+    let none = subst (λ k. window k items ≡ 0) (same_key-true key c same) (window_unaccepted v key items rest a.1 one tells.2 tells.3) in
+    omega arith)
+    (λ differ. before)
 window_small v c (item ∷ items) each a one = window_small v c items (each_rest item items each) (allowed_rest v item items a) (keys_rest item items one)
