@@ -1,5 +1,5 @@
 -- What a step answers.
-use Rattle.std.proofs.Common.{◌≡◌, ◌<◌, ◌≤◌, ℕ, ◌+◌, List, [], ◌∷◌, ◌++◌, length, drop, Bool, true, false, Option, Some, None, refl, sym, ◌∙◌, ap, subst, arith, length-drop}
+use Rattle.std.proofs.Common.{◌≡◌, ◌<◌, ◌≤◌, ℕ, ◌+◌, List, length, drop, Bool, false, Option, Some, None, refl, sym, ◌∙◌, ap, subst, arith, length-drop}
 use Rattle.std.specs.Prelude.{if◌then◌else◌}
 use Rattle.wire_base.specs.declared.frame.Version.TheVariants as version
 use Rattle.wire_base.specs.declared.frame.Frame.{Frame}
@@ -11,19 +11,17 @@ use Rattle.frame_text.specs.Reading.{front}
 use Rattle.frame_text.proofs.Within.{front_within}
 use Rattle.mux_items.specs.declared.channel.ChannelKey.{ChannelKey}
 use Rattle.mux_items.specs.declared.channel.MuxEvent.{MuxEvent}
-use Rattle.mux_items.specs.declared.channel.MuxEvent.TheVariants as event
 use Rattle.mux_items.specs.declared.party.Party.TheVariants.{Neither}
 use Rattle.mux_items.specs.Bodies.{FrameBody, Offer, OfferAccepted, Content, ContentWritingCompleted, ChannelTerminated, ContentProcessed, ChannelFrame, taken_frame}
-use Rattle.mux_items.specs.Items.{Item, Got, End, ended, party_of}
-use Rattle.mux_items.specs.Lists.{termination_emitted}
+use Rattle.mux_items.specs.Items.{Item, Got, End, ended}
 use Rattle.mux_items.specs.Applying.{heeded_event, frame_event}
 use Rattle.mux_end.specs.declared.step.MuxStep.{MuxStep}
 use Rattle.mux_end.specs.declared.step.MuxStep.TheVariants as step
 use Rattle.mux_end.specs.Lane.{Lane}
 use Rattle.mux_end.specs.Stands.{EndValue, MuxStands}
-use Rattle.mux_end.specs.Replies.{Adds, built_refusal, next_by, next_taken, next_from, next_of, refused_at, StepAnswers}
+use Rattle.mux_end.specs.Replies.{Adds, next_by, next_taken, next_from, next_of, refused_at, StepAnswers}
 use Rattle.mux_end.specs.Tests.{lane_frame_refusal}
-use Rattle.mux_end.specs.Ends.{by_lane, end_after, end_refusal, with_applied, with_state, AppliesFrame, AppliesFront}
+use Rattle.mux_end.specs.Ends.{by_lane, end_after, end_refusal, with_state, AppliesFrame, AppliesFront}
 use Rattle.mux_end.proofs.Plain.{party_of-built, termination_emitted-built}
 use Rattle.mux_end.proofs.Steps.{refuses_frame, adds_taken, adds_applied, adds_ended, running_of, ended_none}
 

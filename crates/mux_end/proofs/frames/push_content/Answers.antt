@@ -1,4 +1,4 @@
-use Rattle.std.proofs.Common.{◌≡◌, ◌∙◌, ap, arith, ◌++◌, ◌<◌, length, take, drop}
+use Rattle.std.proofs.Common.{◌∙◌, ap, arith, ◌++◌, ◌<◌, length, take, drop}
 use Rattle.std.proofs.lemmas.Bool.Decides.{nat_tests}
 use Rattle.std.proofs.lemmas.List.{take_min, drop_min}
 use Rattle.mux_items.specs.Bodies.{frame_texts}

@@ -4,7 +4,7 @@ use Rattle.mux_items.specs.declared.channel.ChannelKey.{ChannelKey}
 use Rattle.mux_items.specs.Items.{DidOffer}
 use Rattle.mux_end.specs.Replies.{Adds}
 use Rattle.mux_end.specs.Tests.{lane_offer_refusal}
-use Rattle.mux_end.proofs.Answers.{call_done, call_refused}
+use Rattle.mux_end.proofs.Answers.{call_done}
 use Rattle.mux_end.proofs.Steps.{refuses_offer, adds_offered, next_key_is, over_running}
 use Rattle.mux_end.proofs.end.MuxEnd.offer.Goals as goal
 
