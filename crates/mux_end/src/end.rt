@@ -2,20 +2,20 @@
 
 ghost use Rattle.frame_text.specs.Reading.{front};
 ghost use Rattle.mux_end.specs.Ends.{AppliesFrame, AppliesFront, IsStarted, KeepsTerms, accepted_end, bytes_read, count_read, emits, end_after, end_refusal, offered_end, on_channel, read_end, with_applied, with_lane, with_output, with_rest, with_state, written_end};
-ghost use Rattle.mux_end.specs.Lane.{Lane, answered_lane, credited_lane, heard_lane, taken_lane};
+ghost use Rattle.mux_end.specs.Lane.{answered_lane, credited_lane, heard_lane, taken_lane};
 ghost use Rattle.mux_end.specs.Ranges.{IsInRange};
 ghost use Rattle.mux_end.specs.Replies.{CallAnswers, FeedAnswers, RefusesStopped, StepAnswers, StepsStopped, is_spent, next_of};
-ghost use Rattle.mux_end.specs.Stands.{EndValue, MuxStands};
-ghost use Rattle.mux_end.specs.Tests.{is_running_state, lane_accept_refusal, lane_frame_refusal, lane_offer_refusal, lane_read_refusal, lane_write_refusal, offer_tests, on_lane, peer_offer_tests, unless_over, unless_stopped};
+ghost use Rattle.mux_end.specs.Stands.{MuxStands};
+ghost use Rattle.mux_end.specs.Tests.{is_running_state, lane_accept_refusal, lane_frame_refusal, lane_read_refusal, lane_write_refusal, offer_tests, peer_offer_tests, unless_over, unless_stopped};
 ghost use Rattle.mux_items.specs.Applying.{heeded_event};
-ghost use Rattle.mux_items.specs.Bodies.{body_of, key_of, same_key, taken_frame};
+ghost use Rattle.mux_items.specs.Bodies.{body_of, key_of, taken_frame};
 ghost use Rattle.mux_items.specs.Items.{DidAccept, DidOffer, DidRead, DidWrite, Item, ended};
 ghost use Rattle.mux_items.specs.Kept.{next_key};
 ghost use Rattle.mux_items.specs.Lists.{unread};
 ghost use Rattle.mux_items.specs.Refusals.{accept_refusal, most_bytes, offer_refusal, read_refusal, write_refusal};
 ghost use Rattle.mux_items.specs.Views.{known_keys, tally_of, view_of};
 ghost use Rattle.mux_items.specs.declared.party.Party.TheVariants.{Neither};
-ghost use Rattle.std.specs.Prelude.{◌≡◌, ◌≤◌, ◌<◌, ◌+◌, ◌-◌, ◌++◌, List, [], ℕ, drop, length, min, nat_lt, slice_get, take, true, false, IfOk, OnOk, IfSome, Option};
+ghost use Rattle.std.specs.Prelude.{◌≡◌, ◌≤◌, ◌<◌, ◌+◌, ◌++◌, List, [], ℕ, drop, length, min, nat_lt, slice_get, take, true, false, IfOk, OnOk, IfSome};
 ghost use Rattle.wire_base.specs.declared.refusal.Refusal.{Refusal};
 
 use crate::channel::{Channel, is_bad_window};

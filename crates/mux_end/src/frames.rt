@@ -6,7 +6,7 @@ ghost use Rattle.frame_text.specs.Reading.{front};
 ghost use Rattle.mux_end.specs.Ranges.{IsStepInRange};
 ghost use Rattle.mux_items.specs.Bodies.{Content, ContentProcessed, Offer, OfferAccepted, frame_on, frame_text, frame_texts, origin_of};
 ghost use Rattle.mux_items.specs.Due.{content_frames};
-ghost use Rattle.std.specs.Prelude.{◌≡◌, ◌≤◌, ◌<◌, ◌++◌, ◌^◌, length, true, OnOk, IfOk, Some};
+ghost use Rattle.std.specs.Prelude.{◌≡◌, ◌≤◌, ◌<◌, ◌++◌, ◌^◌, length, true, OnOk, Some};
 
 use frame_pack::PackCodec;
 use frame_text::FrameCodec;
