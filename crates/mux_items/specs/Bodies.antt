@@ -1,5 +1,5 @@
 -- Frames as their channels see them.
-use Rattle.std.specs.Prelude.{ℕ, ◌+◌, ◌%◌, List, length, map, Bool, true, false, not, ◌&&◌, ◌==◌, if◌then◌else◌, Option, Some, None, unwrap_or}
+use Rattle.std.specs.Prelude.{ℕ, ◌%◌, List, map, Bool, true, false, not, ◌&&◌, ◌==◌, if◌then◌else◌, Option, unwrap_or}
 use Rattle.wire_base.specs.declared.frame.Version.{Version}
 use Rattle.wire_base.specs.declared.frame.Version.TheVariants as version
 use Rattle.wire_base.specs.declared.frame.Code.{Code}

@@ -1,5 +1,5 @@
 -- What happened at one end. Lists of items have the newest first.
-use Rattle.std.specs.Prelude.{ℕ, List, [], ◌∷◌, Bool, true, false, filter, if◌then◌else◌, Option, Some, None, is_none}
+use Rattle.std.specs.Prelude.{ℕ, List, [], ◌∷◌, Bool, true, filter, Option, Some, None, is_none}
 use Rattle.wire_base.specs.declared.state.Cause.{Cause}
 use Rattle.mux_items.specs.declared.channel.ChannelKey.{ChannelKey}
 use Rattle.mux_items.specs.declared.party.Party.{Party}

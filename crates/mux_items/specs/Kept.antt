@@ -1,5 +1,5 @@
 -- The channels of one end.
-use Rattle.std.specs.Prelude.{ℕ, ◌+◌, ◌-◌, ◌*◌, List, [], ◌∷◌, length, filter, sum_by, Bool, true, false, not, ◌&&◌, ◌||◌, nat_lt, if◌then◌else◌}
+use Rattle.std.specs.Prelude.{ℕ, ◌+◌, ◌-◌, ◌*◌, List, [], ◌∷◌, filter, sum_by, Bool, true, false, not, ◌&&◌, ◌||◌}
 use Rattle.std.specs.List.{list_any}
 use Rattle.wire_base.specs.declared.frame.Version.{Version}
 use Rattle.mux_items.specs.declared.channel.ChannelKey.{ChannelKey}

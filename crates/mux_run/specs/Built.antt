@@ -1,5 +1,5 @@
 -- The steps that this stage of the program runs: one channel, offered by A, that stays open.
-use Rattle.std.specs.Prelude.{◌≡◌, ◌≤◌, ℕ, List, Bool, true, false, count_by}
+use Rattle.std.specs.Prelude.{◌≡◌, ◌≤◌, List, Bool, true, false, count_by}
 use Rattle.std.specs.List.{list_all}
 use Rattle.mux_run.specs.declared.steps.Side.{Side}
 use Rattle.mux_run.specs.declared.steps.Side.TheVariants.{A, B}

@@ -1,9 +1,9 @@
 -- How the two halves of a run hang together.
-use Rattle.std.specs.Prelude.{◌≡◌, ◌≤◌, ℕ, List, ◌++◌, length, map}
-use Rattle.mux_items.specs.Bodies.{ChannelFrame, flip, frame_texts}
+use Rattle.std.specs.Prelude.{◌≡◌, ◌≤◌, List, ◌++◌, length, map}
+use Rattle.mux_items.specs.Bodies.{ChannelFrame, flip}
 use Rattle.mux_items.specs.Due.{sent, got}
 use Rattle.mux_items.specs.Applying.{Allowed}
-use Rattle.mux_run.specs.Run.{Half, Ways, out, greeting_size}
+use Rattle.mux_run.specs.Run.{Half, Ways, out}
 
 -- what x applied are the first frames that y sent, they lie in what was delivered, and that in what y emitted
 pub record Linked (w : Ways) (x y : Half) : Type 0 where

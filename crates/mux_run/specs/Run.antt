@@ -6,9 +6,9 @@ use Rattle.wire_base.specs.declared.reason.Reason.TheVariants as reason
 use Rattle.wire_base.specs.declared.state.Cause.TheVariants as cause
 use Rattle.frame_text.specs.Hello.{hello}
 use Rattle.mux_items.specs.declared.party.Party.{Party}
-use Rattle.mux_items.specs.declared.party.Party.TheVariants.{Odd, Even, Neither}
-use Rattle.mux_items.specs.Bodies.{ChannelFrame, flip, frame_text, frame_texts, is_three}
-use Rattle.mux_items.specs.Items.{Item, Hello, DidOffer, DidAccept, DidWrite, DidRead, DidComplete, DidTerminate, End, is_running, greeting}
+use Rattle.mux_items.specs.declared.party.Party.TheVariants.{Odd, Even}
+use Rattle.mux_items.specs.Bodies.{ChannelFrame, flip, frame_text, frame_texts}
+use Rattle.mux_items.specs.Items.{Item, Hello, DidOffer, DidAccept, DidWrite, DidRead, DidComplete, DidTerminate, End, is_running}
 use Rattle.mux_items.specs.Kept.{next_key}
 use Rattle.mux_items.specs.Due.{sent, got}
 use Rattle.mux_items.specs.Refusals.{is_ready, most_bytes, offer_refusal, accept_refusal, write_refusal, read_refusal, complete_refusal, terminate_refusal}

@@ -1,25 +1,30 @@
--- How the logic stores a tree.
+-- How the logic stores a tree: each tree as a stored value, no two as one.
 use Rattle.std.proofs.Common.{◌≡◌, ◌≢◌, ℕ, List, refl, ap, arith}
 use Rattle.std.specs.Coded.{Coded, coded×, coded_ℕ, coded_ℤ, coded_bool, coded_list}
 use base.Stored.{Gv, gnil, gnum, gcons}
 use Rattle.wire_base.specs.Tree.{Tree, nil, flag, whole, words, bytes, items, pairs, Trees, no_items, item, Pairs, no_pairs, pair}
 
+-- the first of two stored values
 abbrev head : Gv → Gv
 head gnil = gnil
 head (gnum n) = gnil
 head (gcons a b) = a
 
+-- the second of two stored values
 abbrev tail : Gv → Gv
 tail gnil = gnil
 tail (gnum n) = gnil
 tail (gcons a b) = b
 
+-- values with different tags differ
 apart : (m n : ℕ) {a b : Gv} → gcons (gnum m) a ≡ gcons (gnum n) b → m ≢ n → ⊥
 apart m n p other = other (cc)
 
+-- bytes are stored as std stores a list
 abbrev pub coded_bytes : Coded (List ℕ)
 coded_bytes = coded_list coded_ℕ
 
+-- a tag, and the parts
 abbrev mutual
   pub tree_code : Tree → Gv
   tree_code nil = gcons (gnum 0) gnil
@@ -38,6 +43,7 @@ abbrev mutual
   pairs_code no_pairs = gnil
   pairs_code (pair k t ps) = gcons (coded_bytes.code k) (gcons (tree_code t) (pairs_code ps))
 
+-- the tag by itself
 abbrev tag : Tree → ℕ
 tag nil = 0
 tag (flag b) = 1
@@ -47,6 +53,7 @@ tag (bytes s) = 4
 tag (items ts) = 5
 tag (pairs ps) = 6
 
+-- what is stored alike is alike
 mutual
   pub tree_inj : (x y : Tree) → tree_code x ≡ tree_code y → x ≡ y
   tree_inj nil nil p = refl
@@ -68,11 +75,14 @@ mutual
   pairs_inj (pair j a as_) (pair k b bs) p = λ i. pair (coded_bytes.inj j k (ap (λ g. head g) p) i) (tree_inj a b (ap (λ g. head (tail g)) p) i) (pairs_inj as_ bs (ap (λ g. tail (tail g)) p) i)
   pairs_inj x y p = absurd (cc)
 
+-- trees can be stored
 abbrev pub coded_tree : Coded Tree
 coded_tree = record { code = tree_code; inj = tree_inj }
 
+-- and lists of them
 abbrev pub coded_trees : Coded (List Tree)
 coded_trees = coded_list coded_tree
 
+-- and lists of keys with them
 abbrev pub coded_pairs : Coded (List (List ℕ × Tree))
 coded_pairs = coded_list (coded× coded_bytes coded_tree)

@@ -1,5 +1,5 @@
--- The heads of tokens.
-use Rattle.std.specs.Prelude.{ℕ, ◌+◌, ◌-◌, ◌<◌, ◌≤◌, List, [], ◌∷◌, length, take, ℤ, pos, negsuc, true, false, nat_lt, ◌==◌, if◌then◌else◌}
+-- The heads of tokens, as the MessagePack specification has them in "Formats"; a float, an extension and c1 are refused.
+use Rattle.std.specs.Prelude.{ℕ, ◌+◌, ◌-◌, ◌<◌, ◌≤◌, List, [], ◌∷◌, length, take, pos, negsuc, true, false, nat_lt, ◌==◌, if◌then◌else◌}
 use Rattle.std.specs.Int.{Width, w8, w16, w32, w64, byte_len, from_be_bytes, cast_signed}
 use Rattle.wire_base.specs.declared.reason.Reason.{Reason}
 use Rattle.wire_base.specs.declared.reason.Reason.TheVariants.{Unused, Float, Ext}
@@ -19,6 +19,7 @@ pub data Kind : Type 0 where
   map : Width → Kind
   refused : Reason → Kind
 
+-- the first bytes from c0 to df
 unfoldable pub lettered : ℕ → Kind
 lettered b =
     if b == 0xc0 then whole_head Nil
@@ -47,6 +48,7 @@ lettered b =
     else if b == 0xde then map w16
     else map w32
 
+-- what each first byte says
 abbrev pub kind_of : ℕ → Kind
 kind_of b =
     if nat_lt b 0x80 then whole_head (Whole (pos b))
@@ -60,6 +62,7 @@ kind_of b =
 abbrev pub numbered : Width → (ℕ → TokenHead) → List ℕ → HeadStep
 numbered w f bytes = if nat_lt (length bytes) (byte_len w) then Short else Got (f (from_be_bytes w (take (byte_len w) bytes))) (byte_len w + 1)
 
+-- the head that follows a first byte of this kind
 abbrev pub read_kind : Kind → List ℕ → HeadStep
 read_kind (whole_head h) rest = Got h 1
 read_kind (unsigned w) rest = numbered w (λ n. Whole (pos n)) rest
@@ -70,6 +73,7 @@ read_kind (array w) rest = numbered w Array rest
 read_kind (map w) rest = numbered w Map rest
 read_kind (refused r) rest = Refused r
 
+-- the head at the front of some bytes: itself with its length, its refusal, or that it isn't whole
 abbrev pub head_of : List ℕ → HeadStep
 head_of [] = Short
 head_of (b ∷ rest) = read_kind (kind_of b) rest

@@ -9,3 +9,6 @@ pub mod Causes
 pub mod Streams
 pub mod Memory
 pub mod Numbers
+pub mod Shortest
+pub mod Appends
+pub mod Standard

@@ -5,6 +5,7 @@ use Rattle.wire_base.specs.declared.reason.Reason.TheVariants as reason
 use Rattle.wire_base.specs.declared.refusal.Refusal.{Refusal}
 use Rattle.wire_base.specs.declared.refusal.Refusal.TheVariants as refusal
 
+-- the number of a reason why received bytes are refused
 unfoldable pub reason_number : Reason → ℕ
 reason_number reason.Unused = 1
 reason_number reason.Float = 2
@@ -53,6 +54,7 @@ reason_number reason.BadError = 66
 reason_number reason.Batch = 67
 reason_number reason.DuplicateRequest = 72
 
+-- its name, which two reasons may share
 unfoldable pub reason_name : Reason → List ℕ
 reason_name reason.Unused = codes "Unused"
 reason_name reason.Float = codes "Float"
@@ -101,6 +103,7 @@ reason_name reason.BadError = codes "BadError"
 reason_name reason.Batch = codes "Batch"
 reason_name reason.DuplicateRequest = codes "DuplicateRequest"
 
+-- the number of a reason why a local call is refused
 unfoldable pub refusal_number : Refusal → ℕ
 refusal_number refusal.NotOpen = 30
 refusal_number refusal.WritingDone = 31
@@ -137,6 +140,7 @@ refusal_number refusal.TooManySequences = 87
 refusal_number refusal.ReservedMember = 88
 refusal_number refusal.BadPage = 89
 
+-- its name
 unfoldable pub refusal_name : Refusal → List ℕ
 refusal_name refusal.NotOpen = codes "NotOpen"
 refusal_name refusal.WritingDone = codes "WritingDone"

@@ -3,6 +3,7 @@ use Rattle.wire_base.specs.Tree.{Tree, nil, flag, whole, words, bytes, items, pa
 use Rattle.wire_base.specs.declared.datum.Node.{Node}
 use Rattle.wire_base.specs.declared.datum.Node.TheVariants.{Nil, Flag, Whole, Words, Bytes, Items, Pairs}
 
+-- case by case
 abbrev pub tree_of : Node → Tree
 tree_of Nil = nil
 tree_of (Flag b) = flag b

@@ -1,3 +1,5 @@
+//! Values of MessagePack and JSON, and their lists.
+
 ghost use Rattle.std.specs.Prelude.{◌≡◌, [], ◌∷◌, ◌++◌, length, slice_get, IfOk, OnOk, OnErr};
 ghost use Rattle.std.specs.Option.{option_copied};
 
@@ -8,12 +10,14 @@ use crate::whole::Whole;
 use std::alloc::Global;
 use std::marker::Model;
 
+/// A value of MessagePack or JSON, seen by contracts as a tree.
 #[cycle(datum)]
 #[derive(Debug, Drop)]
 pub struct Datum {
     pub node: Node,
 }
 
+/// What a value is. A float and an extension are none of these.
 #[cycle(datum)]
 #[derive(Debug, Drop)]
 pub enum Node {
@@ -26,12 +30,14 @@ pub enum Node {
     Pairs(PairList),
 }
 
+/// Values in order: an array's elements.
 #[cycle(datum)]
 #[derive(Debug, Drop)]
 pub struct DatumList {
     items: Vec<Datum>,
 }
 
+/// Keys and values in order: a map's pairs. A key may stand in it more than once.
 #[cycle(datum)]
 #[derive(Debug, Drop)]
 pub struct PairList {
@@ -94,6 +100,7 @@ impl Model for PairList {
 }
 
 impl DatumList {
+    /// No value. It takes no memory.
     pub fn new(alloc: Global) -> DatumList
         ensures { result ≡ [] }
     {
@@ -102,24 +109,28 @@ impl DatumList {
         }
     }
 
+    /// How many values there are.
     pub fn len(&self) -> usize
         ensures { result ≡ length self.now }
     {
         self.items.len()
     }
 
+    /// The values as a slice.
     pub fn as_slice(&self) -> &[Datum]
         ensures { result.now ≡ self.now }
     {
         self.items.as_slice()
     }
 
+    /// The value at this index, from 0.
     pub fn get(&self, i: usize) -> Option<&Datum>
         ensures { option_copied result ≡ slice_get self.now i }
     {
         self.items.get(i)
     }
 
+    /// Adds a value at the end.
     pub fn push(&mut self, item: Datum) -> Result<(), OutOfMemory>
         ensures ok { OnOk result (self.new ≡ self.old ++ item ∷ []) }
         ensures err { OnErr result (self.new ≡ self.old) }
@@ -132,6 +143,7 @@ impl DatumList {
 impl PairList {
     ghost use Rattle.wire_base.specs.Find.{last_of};
 
+    /// No pair. It takes no memory.
     pub fn new(alloc: Global) -> PairList
         ensures { result ≡ [] }
     {
@@ -140,24 +152,28 @@ impl PairList {
         }
     }
 
+    /// How many pairs there are.
     pub fn len(&self) -> usize
         ensures { result ≡ length self.now }
     {
         self.pairs.len()
     }
 
+    /// The pairs as a slice.
     pub fn as_slice(&self) -> &[(Text, Datum)]
         ensures { result.now ≡ self.now }
     {
         self.pairs.as_slice()
     }
 
+    /// The pair at this index, from 0.
     pub fn get(&self, i: usize) -> Option<&(Text, Datum)>
         ensures { option_copied result ≡ slice_get self.now i }
     {
         self.pairs.get(i)
     }
 
+    /// Adds a pair at the end.
     pub fn push(&mut self, item: (Text, Datum)) -> Result<(), OutOfMemory>
         ensures ok { OnOk result (self.new ≡ self.old ++ item ∷ []) }
         ensures err { OnErr result (self.new ≡ self.old) }
@@ -179,6 +195,7 @@ impl PairList {
         None
     }
 
+    /// An equal value of its own.
     #[cycle(copy)]
     pub fn copy(&self, alloc: Global) -> Result<PairList, OutOfMemory>
         ensures { IfOk result (λ d. d ≡ self.now) }
@@ -194,6 +211,7 @@ impl PairList {
 }
 
 impl DatumList {
+    /// An equal value of its own.
     #[cycle(copy)]
     pub fn copy(&self, alloc: Global) -> Result<DatumList, OutOfMemory>
         ensures { IfOk result (λ d. d ≡ self.now) }
@@ -208,6 +226,7 @@ impl DatumList {
 }
 
 impl Datum {
+    /// An equal value of its own.
     #[cycle(copy)]
     pub fn copy(&self, alloc: Global) -> Result<Datum, OutOfMemory>
         ensures { IfOk result (λ d. d ≡ self.now) }

@@ -42,6 +42,7 @@ pub enum Payload {
     Processed(u64),
 }
 
+/// A frame. Its channel is named by the id and the origin.
 #[derive(Debug, Drop)]
 pub struct Frame {
     pub code: Code,

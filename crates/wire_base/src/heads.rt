@@ -1,3 +1,5 @@
+//! Reading the head of a MessagePack token.
+
 ghost use Rattle.std.specs.Prelude.{◌≡◌, ◌<◌, ◌≤◌, length, take, nat_lt, Some, None, if◌then◌else◌};
 ghost use Rattle.std.specs.Int.{w8, w16, w32, w64, from_be_bytes, byte_len, cast_signed};
 ghost use Rattle.wire_base.specs.Head.{IsWithin, IsWithinTail, head_of, read_kind, kind_of, lettered};
@@ -44,6 +46,7 @@ fn u64_at(bytes: &[u8]) -> Option<u64>
     ]))
 }
 
+// A first byte from c0 to df.
 #[tactic(auto, unfolding(crate::specs::Head::lettered))]
 fn lettered_head(first: u8, rest: &[u8]) -> HeadStep
     requires low { 0xc0 ≤ first }
@@ -134,7 +137,7 @@ fn lettered_head(first: u8, rest: &[u8]) -> HeadStep
     }
 }
 
-/// The head of the token at the front.
+/// The head of the MessagePack token at the front. It takes no memory.
 pub fn head(bytes: &[u8]) -> HeadStep
     ensures exact { result ≡ head_of bytes.now }
     ensures within { IsWithin result bytes.now }

@@ -1,6 +1,8 @@
-ghost use Rattle.std.specs.Prelude.{◌≡◌, ◌++◌, ◌∷◌, [], length, drop, IsTrue, ◌↔◌, ◌<◌, slice_get, Some, OnOk, OnErr};
+//! A source and a sink in memory, whose calls fail where they are told to.
+
+ghost use Rattle.std.specs.Prelude.{◌≡◌, ◌++◌, ◌∷◌, [], length, drop, slice_get, false, IsTrue, ◌↔◌, Contains, Some, OnOk, OnErr};
 ghost use Rattle.std.specs.Option.{option_copied};
-ghost use Rattle.wire_base.specs.Memory.{source_held, sink_given};
+ghost use Rattle.wire_base.specs.Memory.{source_held, source_faults, source_ended, sink_given, sink_faults, sink_flushed};
 
 use crate::blob::Blob;
 use crate::out_of_memory::OutOfMemory;
@@ -8,7 +10,8 @@ use crate::streams::{Failed, Sink, Source};
 use std::alloc::Global;
 use std::marker::Model;
 
-/// The numbers of the calls that are to fail, from 1.
+/// The numbers of the calls that are to fail, in any order. Each source and sink counts its own calls, from 1:
+/// a source its reads, a sink its writes and flushes together.
 #[derive(Drop)]
 pub struct Calls {
     numbers: Vec<u64>,
@@ -23,6 +26,7 @@ impl Model for Calls {
 }
 
 impl Calls {
+    /// No call is to fail.
     pub fn new(alloc: Global) -> Calls
         ensures { result ≡ [] }
     {
@@ -31,18 +35,21 @@ impl Calls {
         }
     }
 
+    /// How many numbers there are.
     pub fn len(&self) -> usize
         ensures { result ≡ length self.now }
     {
         self.numbers.len()
     }
 
+    /// The number at this index, from 0.
     pub fn get(&self, i: usize) -> Option<&u64>
         ensures { option_copied result ≡ slice_get self.now i }
     {
         self.numbers.get(i)
     }
 
+    /// Adds the number of one more call.
     pub fn push(&mut self, item: u64) -> Result<(), OutOfMemory>
         ensures ok { OnOk result (self.new ≡ self.old ++ item ∷ []) }
         ensures err { OnErr result (self.new ≡ self.old) }
@@ -51,11 +58,14 @@ impl Calls {
         Ok(())
     }
 
-    pub(crate) fn has(&self, number: u64) -> bool {
+    fn has(&self, number: u64) -> bool
+        ensures { IsTrue result ↔ Contains self.now number }
+    {
         self.numbers.contains(&number)
     }
 }
 
+/// A source whose bytes lie in memory.
 #[derive(Drop)]
 pub struct MemSource {
     bytes: Blob,
@@ -67,8 +77,11 @@ pub struct MemSource {
 }
 
 impl MemSource {
+    /// A source of these bytes, whose reads with these numbers fail.
     pub fn new(bytes: Blob, failing: Calls) -> MemSource
-        ensures { source_held result ≡ Some bytes }
+        ensures held { source_held result ≡ Some bytes }
+        ensures faults { source_faults result ≡ 0 }
+        ensures ended { source_ended result ≡ false }
     {
         MemSource {
             bytes,
@@ -81,14 +94,6 @@ impl MemSource {
     }
 }
 
-impl MemSource {
-    pub(crate) fn has_failed(&self) -> bool
-        ensures { IsTrue result ↔ (0 < self.now.faults) }
-    {
-        self.faults > 0
-    }
-}
-
 fn rest_of(bytes: &[u8], at: usize) -> &[u8]
     ensures { result.now ≡ drop at bytes.now }
 {
@@ -98,9 +103,9 @@ fn rest_of(bytes: &[u8], at: usize) -> &[u8]
 impl Source for MemSource {
     ghost held = { source_held };
 
-    ghost faults = { λ s. s.faults };
+    ghost faults = { source_faults };
 
-    ghost ended = { λ s. s.ended };
+    ghost ended = { source_ended };
 
     fn read(&mut self, buf: &mut [u8]) -> Result<usize, Failed> {
         self.calls = self.calls.saturating_add(1);
@@ -118,6 +123,7 @@ impl Source for MemSource {
     }
 }
 
+/// A sink that keeps what it is given.
 #[derive(Drop)]
 pub struct MemSink {
     given: Vec<u8>,
@@ -128,8 +134,11 @@ pub struct MemSink {
 }
 
 impl MemSink {
+    /// A sink that was given nothing, whose writes and flushes with these numbers fail.
     pub fn new(alloc: Global, failing: Calls) -> MemSink
-        ensures { sink_given result ≡ Some [] }
+        ensures given { sink_given result ≡ Some [] }
+        ensures faults { sink_faults result ≡ 0 }
+        ensures flushed { sink_flushed result ≡ false }
     {
         MemSink {
             given: Vec::new(alloc),
@@ -140,6 +149,7 @@ impl MemSink {
         }
     }
 
+    /// The bytes of every write that answered Ok, in order.
     pub fn given(&self) -> &[u8]
         ensures { sink_given self.now ≡ Some result.now }
     {
@@ -147,20 +157,12 @@ impl MemSink {
     }
 }
 
-impl MemSink {
-    pub(crate) fn has_failed(&self) -> bool
-        ensures { IsTrue result ↔ (0 < self.now.faults) }
-    {
-        self.faults > 0
-    }
-}
-
 impl Sink for MemSink {
     ghost given = { sink_given };
 
-    ghost faults = { λ s. s.faults };
+    ghost faults = { sink_faults };
 
-    ghost flushed = { λ s. s.flushed };
+    ghost flushed = { sink_flushed };
 
     fn write(&mut self, piece: &[u8]) -> Result<usize, Failed> {
         self.calls = self.calls.saturating_add(1);

@@ -7,10 +7,12 @@ mod fault;
 mod frame;
 mod heads;
 mod in_memory;
+mod laws;
 mod out_of_memory;
 mod place;
 mod reason;
 mod refusal;
+mod shortest;
 mod standard;
 mod state;
 mod streams;
@@ -24,13 +26,20 @@ pub use fault::CallFault;
 pub use frame::{Code, Frame, FrameStep, Origin, Payload, Version};
 pub use heads::head;
 pub use in_memory::{Calls, MemSink, MemSource};
+pub use laws::{heads_stay, shortest_heads_are_heads};
 pub use out_of_memory::OutOfMemory;
 pub use place::Place;
 pub use reason::Reason;
 pub use refusal::Refusal;
+pub use shortest::{
+    push_array_head, push_bin_head, push_map_head, push_str_head, push_unsigned, push_whole,
+};
 pub use standard::{StdSink, StdSource};
 pub use state::{Cause, EndState};
 pub use streams::{Failed, Link, Sink, Source};
 pub use text::{Id, Text, TextFault};
 pub use token::{HeadStep, TokenHead};
 pub use whole::Whole;
+
+#[cfg(test)]
+mod tests;

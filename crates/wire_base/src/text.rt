@@ -1,3 +1,5 @@
+//! Texts, and the ids of requests.
+
 ghost use Rattle.std.specs.Prelude.{◌≡◌, ◌↔◌, ◌==◌, IfOk, OnOk, IsErrOf, IsUtf8, true, false};
 ghost use Rattle.std.specs.Str.{is_utf8};
 
@@ -6,9 +8,12 @@ use std::alloc::Global;
 use std::marker::Model;
 use std::str;
 
-#[derive(Clone, Copy, Debug, PartialEq, Eq)]
+/// Why bytes are made no text.
+#[derive(Clone, Copy, Debug, PartialEq, Eq, thiserror::Error)]
 pub enum TextFault {
+    #[error("the bytes are not UTF-8")]
     BadUtf8,
+    #[error("out of memory")]
     OutOfMemory,
 }
 
@@ -27,6 +32,7 @@ impl Model for Text {
 }
 
 impl Text {
+    /// Copies the text.
     pub fn from_str(alloc: Global, s: &str) -> Result<Text, OutOfMemory>
         ensures { IfOk result (λ t. t ≡ s.now) }
     {
@@ -34,6 +40,7 @@ impl Text {
         Ok(Text { inner })
     }
 
+    /// Copies bytes that are UTF-8.
     #[tactic(auto, using(crate::proofs::Utf8::tests))]
     pub fn from_utf8(alloc: Global, bytes: &[u8]) -> Result<Text, TextFault>
         ensures ok { IfOk result (λ t. t ≡ bytes.now) }
@@ -49,6 +56,7 @@ impl Text {
         }
     }
 
+    /// The text, without a copy.
     pub fn as_str(&self) -> &str
         ensures value { result.now ≡ self.now }
         ensures utf8 { IsUtf8 self.now }
@@ -56,6 +64,7 @@ impl Text {
         self.inner.as_str()
     }
 
+    /// An equal value of its own.
     pub fn copy(&self, alloc: Global) -> Result<Text, OutOfMemory>
         ensures { IfOk result (λ t. t ≡ self.now) }
     {
@@ -77,14 +86,15 @@ impl PartialEq for Text {
     }
 }
 
-/// A number or a name.
-#[derive(Debug, Drop)]
+/// What names a request: a number or a text.
+#[derive(Debug, Drop, PartialEq)]
 pub enum Id {
     Number(i64),
     Name(Text),
 }
 
 impl Id {
+    /// An equal value of its own.
     pub fn copy(&self, alloc: Global) -> Result<Id, OutOfMemory>
         ensures { IfOk result (λ id. id ≡ self.now) }
     {

@@ -1,3 +1,5 @@
+//! Whole numbers of 64 bits, signed or not.
+
 ghost use Rattle.wire_base.specs.Whole.{IsWhole};
 ghost use Rattle.std.specs.Prelude.{◌≡◌, ◌↔◌, IfSome, IsNone};
 
@@ -26,6 +28,7 @@ impl Model for Whole {
 }
 
 impl Whole {
+    /// The number, if it is in range.
     pub fn new(n: i128) -> Option<Whole>
         ensures some { IfSome result (λ w. w ≡ n) }
         ensures none { IsNone result ↔ ¬ (IsWhole n) }
@@ -37,6 +40,7 @@ impl Whole {
         }
     }
 
+    /// The number.
     pub fn get(&self) -> i128
         ensures value { result ≡ self.now }
         ensures range { IsWhole self.now }
@@ -48,12 +52,14 @@ impl Whole {
 impl Whole {
     ghost use Rattle.std.specs.Prelude.{◌≡◌, pos};
 
+    /// A number that isn't negative, which is always in range.
     pub fn from_u64(n: u64) -> Whole
         ensures { result ≡ pos n }
     {
         Whole { inner: n as i128 }
     }
 
+    /// A signed number, which is always in range.
     pub fn from_i64(n: i64) -> Whole
         ensures { result ≡ n }
     {

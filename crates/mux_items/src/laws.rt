@@ -1,0 +1,41 @@
+//! Laws of one end's items.
+
+ghost use Rattle.std.specs.Prelude.{◌≡◌, ◌≤◌, ◌++◌, ℕ, List, length, take, false};
+ghost use Rattle.wire_base.specs.declared.frame.Version.{Version};
+ghost use Rattle.mux_items.specs.declared.channel.ChannelKey.{ChannelKey};
+ghost use Rattle.mux_items.specs.Bodies.{is_one};
+ghost use Rattle.mux_items.specs.Items.{Item, restricted};
+ghost use Rattle.mux_items.specs.Lists.{written, window, emitted, taken, handed, unread};
+ghost use Rattle.mux_items.specs.Due.{sent, got, contents};
+ghost use Rattle.mux_items.specs.Applying.{Allowed};
+
+/// What was sent on a channel is the emitted front of what was written.
+pub fn sent_is_emitted()
+    ensures { (v : Version) (c : ChannelKey) (items : List Item) → contents c (sent v items) ≡ take (emitted v c items) (written c items) }
+{}
+
+/// What was taken from a channel is a front of the content that came on it.
+pub fn taken_is_content()
+    ensures { (v : Version) (c : ChannelKey) (items : List Item) → Allowed v items → (rest : List ℕ) × (taken v c items ++ rest ≡ contents c (got items)) }
+{}
+
+/// No more is handed over than was taken, and no more is emitted than was written.
+pub fn counts_are_bounded()
+    ensures handed { (v : Version) (c : ChannelKey) (items : List Item) → handed v c items ≤ length (taken v c items) }
+    ensures emitted { (v : Version) (c : ChannelKey) (items : List Item) → emitted v c items ≤ length (written c items) }
+{}
+
+/// A channel depends on the items that name it, the handshake and the end alone.
+pub fn channels_are_apart()
+    ensures written { (c : ChannelKey) (items : List Item) → written c (restricted c items) ≡ written c items }
+    ensures window { (c : ChannelKey) (items : List Item) → window c (restricted c items) ≡ window c items }
+    ensures emitted { (v : Version) (c : ChannelKey) (items : List Item) → emitted v c (restricted c items) ≡ emitted v c items }
+    ensures taken { (v : Version) (c : ChannelKey) (items : List Item) → taken v c (restricted c items) ≡ taken v c items }
+    ensures handed { (v : Version) (c : ChannelKey) (items : List Item) → handed v c (restricted c items) ≡ handed v c items }
+    ensures unread { (v : Version) (c : ChannelKey) (items : List Item) → unread v c (restricted c items) ≡ unread v c items }
+{}
+
+/// In versions 2 and 3 no more is unread than the own window, whatever the peer sends.
+pub fn window_is_kept()
+    ensures { (v : Version) (c : ChannelKey) (items : List Item) → is_one v ≡ false → Allowed v items → length (unread v c items) ≤ window c items }
+{}

@@ -1,0 +1,4 @@
+pub mod Streams
+pub mod Words
+pub mod Outcome
+pub mod StatusText

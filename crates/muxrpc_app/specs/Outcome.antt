@@ -1,0 +1,92 @@
+-- What a replay has read and written when it answers a status.
+use Rattle.std.specs.Prelude.{◌≡◌, ◌≤◌, ℕ, List, [], Bool, true, length, Option, Some, replicate}
+use Rattle.std.specs.Io.KnownBytes.{append_known}
+use Rattle.wire_base.specs.Causes.{Rose}
+use Rattle.wire_base.specs.declared.frame.Version.{Version}
+use Rattle.mux_run.specs.declared.steps.Step.{Step}
+use Rattle.mux_run.specs.Run.{Terms}
+use Rattle.mux_run.specs.Safe.{IsSafeRun}
+use Rattle.script.specs.Found.{script_in, reads, breaks}
+use Rattle.script.specs.Numbers.{script_reason_number}
+use Rattle.script.specs.declared.reason.ScriptReason.{ScriptReason}
+use Rattle.transcript.specs.Report.{report_text}
+use Rattle.muxrpc_app.specs.Streams.{WasRead, HoldsNothing, ReadWithin, ReadPast, WroteFront, most_input}
+use Rattle.muxrpc_app.specs.declared.input.InputFault.{InputFault}
+use Rattle.muxrpc_app.specs.declared.input.InputFault.TheVariants as fault
+use Rattle.muxrpc_app.specs.declared.status.Status.{Status}
+use Rattle.muxrpc_app.specs.declared.status.Status.TheVariants as status
+
+-- the meaning of a source: what it holds, its count of faults, and whether its last read answered 0
+pub record SourceState : Type 0 where
+  pub held : Option (List ℕ)
+  pub faults : ℕ
+  pub ended : Bool
+
+-- the meaning of a sink: what it was given, its count of faults, and whether its last call was a flush that answered Ok
+pub record SinkState : Type 0 where
+  pub given : Option (List ℕ)
+  pub faults : ℕ
+  pub flushed : Bool
+
+-- the terms of a script: version 3 has no nonces
+abbrev pub script_terms : Version → Terms
+script_terms v = record { version = v; nonce_a = replicate 16 0; nonce_b = replicate 16 0 }
+
+-- the input was read to its end, within the limit, and is a script
+pub record ReadScript (old new : SourceState) : Type 0 where
+  pub bytes : List ℕ
+  pub version : Version
+  pub steps : List Step
+  pub was_read : WasRead old.held new.held bytes
+  pub within : length bytes ≤ most_input
+  pub ended : new.ended ≡ true
+  pub at_end : HoldsNothing new.held
+  pub is_script : script_in bytes ≡ reads version steps
+
+-- the report of the run of a script that was read
+abbrev pub text_of : {old new : SourceState} → ReadScript old new → List ℕ
+text_of s = report_text (script_terms s.version) s.steps
+
+-- the output has grown by exactly the report of the run of the script that was read, and that run is safe
+pub record ReplayDone (old new : SourceState) (before after : SinkState) : Type 0 where
+  pub script : ReadScript old new
+  pub written : after.given ≡ append_known before.given (text_of script)
+  pub flushed : after.flushed ≡ true
+  pub safe : IsSafeRun (script_terms script.version) script.steps
+
+-- writing failed: a front of the report is written
+pub record WritingFailed (old new : SourceState) (before after : SinkState) : Type 0 where
+  pub script : ReadScript old new
+  pub cause : Rose before.faults after.faults
+  pub front : WroteFront before.given after.given (text_of script)
+
+-- the input was read to its end, and is broken as a script first in this line; nothing is written
+pub record ScriptBroken (old new : SourceState) (before after : SinkState) (line number : ℕ) : Type 0 where
+  pub bytes : List ℕ
+  pub reason : ScriptReason
+  pub was_read : WasRead old.held new.held bytes
+  pub within : length bytes ≤ most_input
+  pub ended : new.ended ≡ true
+  pub at_end : HoldsNothing new.held
+  pub breaks_there : script_in bytes ≡ breaks line reason
+  pub number_is : number ≡ script_reason_number reason
+  pub nothing : after.given ≡ before.given
+
+-- what a replay has done, by the status that it answers
+abbrev pub Replayed : SourceState → SourceState → SinkState → SinkState → Status → Type 0
+Replayed old new before after status.Done = ReplayDone old new before after
+Replayed old new before after status.Usage = ⊥
+Replayed old new before after (status.ScriptRefused line number) = ScriptBroken old new before after line number
+Replayed old new before after (status.StreamRefused place reason) = ⊥
+Replayed old new before after status.ReadFault = Rose old.faults new.faults × ReadWithin old.held new.held × (after.given ≡ before.given)
+Replayed old new before after status.WriteFault = WritingFailed old new before after
+Replayed old new before after status.LinkFault = ⊥
+Replayed old new before after status.OutOfMemory = after.given ≡ before.given
+Replayed old new before after status.TooLong = ReadPast old.held new.held × (after.given ≡ before.given)
+Replayed old new before after status.LinkEnded = ⊥
+
+-- the status of an input that wasn't read to its end
+abbrev pub input_status : InputFault → Status
+input_status fault.Failed = status.ReadFault
+input_status fault.TooLong = status.TooLong
+input_status fault.OutOfMemory = status.OutOfMemory

@@ -1,0 +1,12 @@
+pub mod Levels
+pub mod Loop
+pub mod Heads
+pub mod Found
+pub mod Again
+pub mod Follows
+pub mod Settled
+pub mod Fronts
+pub mod Keeps
+pub mod Lists
+pub mod Spelled
+pub mod Apart

@@ -1,0 +1,22 @@
+use Rattle.std.proofs.Common.{◌≡◌, ◌+◌, ◌*◌, ◌++◌, take}
+use Rattle.wire_base.specs.Tree.{trees_of, pairs_of, weight, list_size, pair_size}
+use Rattle.pack_value.specs.Shortest.{shortest_items, shortest_pairs}
+use Rattle.pack_value.proofs.encoder.+put.Given as goal
+
+abbrev pub decreases-put_value : goal.decreases-put_value
+decreases-put_value l = 2 * weight l.value.now
+
+abbrev pub decreases-put_items : goal.decreases-put_items
+decreases-put_items l = 2 * list_size l.items.now
+
+abbrev pub decreases-put_pairs : goal.decreases-put_pairs
+decreases-put_pairs l = 2 * pair_size l.pairs.now
+
+abbrev pub decreases-put_pair : goal.decreases-put_pair
+decreases-put_pair l = 2 * weight l.pair.now.1 + 1
+
+abbrev pub invariant-put_items-loop-item : goal.invariant-put_items-loop-item
+invariant-put_items-loop-item l = (l.item-items ≡ l.items) × (l.out.items ≡ l.fn.out.items ++ shortest_items (trees_of (take l.item-index l.item-items)))
+
+abbrev pub invariant-put_pairs-loop-pair : goal.invariant-put_pairs-loop-pair
+invariant-put_pairs-loop-pair l = (l.pair-items ≡ l.pairs) × (l.out.items ≡ l.fn.out.items ++ shortest_pairs (pairs_of (take l.pair-index l.pair-items)))

@@ -1,0 +1,226 @@
+ghost use Rattle.std.specs.Prelude.{◌≡◌, ◌≤◌, ◌<◌, ◌++◌, ◌↔◌, length, IsTrue, OnOk, OnErr, IsErrOf, true, false};
+ghost use Rattle.wire_base.specs.Tree.{trees_of, pairs_of};
+ghost use Rattle.wire_base.specs.Shortest.{bin_head};
+ghost use Rattle.pack_value.specs.Spelling.{IsSpelling, max_len, max_nesting, nesting, nestings, pair_nestings};
+ghost use Rattle.pack_value.specs.Shortest.{KeepsFront, IsText, IsEntry, entry_fits, shortest_entry, IsValue, AreValues, ArePairs, lengths_fit, item_lengths_fit, pair_lengths_fit, shortest, shortest_items, shortest_pairs, text};
+
+use crate::encode_fault::EncodeFault;
+use wire_base::{
+    Datum, DatumList, Node, OutOfMemory, PairList, Text, push_array_head, push_bin_head,
+    push_map_head, push_str_head, push_whole,
+};
+
+const MAX_LEN: usize = 16_777_216;
+
+const MAX_NESTING: u32 = 127;
+
+/// Whether arrays and maps nest at most so deep.
+#[cycle(nests)]
+#[tactic(auto, using(crate::proofs::Lists::nests))]
+fn nests_within(value: &Datum, depth: u32) -> bool
+    ensures { IsTrue result ↔ (nesting value.now ≤ depth) }
+{
+    match &value.node {
+        Node::Items(items) => depth > 0 && items_nest_within(items, depth - 1),
+        Node::Pairs(pairs) => depth > 0 && pairs_nest_within(pairs, depth - 1),
+        _ => true,
+    }
+}
+
+#[cycle(nests)]
+#[tactic(auto, using(crate::proofs::Lists::nests))]
+fn items_nest_within(items: &DatumList, depth: u32) -> bool
+    ensures { IsTrue result ↔ (nestings (trees_of items.now) ≤ depth) }
+{
+    for item in items.as_slice() {
+        if !nests_within(item, depth) {
+            return false;
+        }
+    }
+    true
+}
+
+#[cycle(nests)]
+#[tactic(auto, using(crate::proofs::Lists::nests))]
+fn pairs_nest_within(pairs: &PairList, depth: u32) -> bool
+    ensures { IsTrue result ↔ (pair_nestings (pairs_of pairs.now) ≤ depth) }
+{
+    for pair in pairs.as_slice() {
+        if !nests_within(&pair.1, depth) {
+            return false;
+        }
+    }
+    true
+}
+
+fn text_fits(text: &Text) -> bool
+    ensures exact { IsTrue result ↔ (length text.now ≤ max_len) }
+    ensures valid { IsTrue result → IsText text.now }
+{
+    text.as_str().len() <= MAX_LEN
+}
+
+/// Whether no text, bytes, array or map is too long.
+#[cycle(fit)]
+#[tactic(auto, using(crate::proofs::Lists::fits))]
+fn fits(value: &Datum) -> bool
+    ensures exact { result ≡ lengths_fit value.now }
+    ensures valid { IsTrue result → IsValue value.now }
+{
+    match &value.node {
+        Node::Nil => true,
+        Node::Flag(_) => true,
+        Node::Whole(whole) => {
+            let _ = whole.get();
+            true
+        }
+        Node::Words(text) => text_fits(text),
+        Node::Bytes(blob) => blob.as_bytes().len() <= MAX_LEN,
+        Node::Items(items) => items.len() <= MAX_LEN && items_fit(items),
+        Node::Pairs(pairs) => pairs.len() <= MAX_LEN && pairs_fit(pairs),
+    }
+}
+
+#[cycle(fit)]
+#[tactic(auto, using(crate::proofs::Lists::fits))]
+fn items_fit(items: &DatumList) -> bool
+    ensures exact { result ≡ item_lengths_fit (trees_of items.now) }
+    ensures valid { IsTrue result → AreValues (trees_of items.now) }
+{
+    for item in items.as_slice() {
+        if !fits(item) {
+            return false;
+        }
+    }
+    true
+}
+
+#[cycle(fit)]
+#[tactic(auto, using(crate::proofs::Lists::fits))]
+fn pairs_fit(pairs: &PairList) -> bool
+    ensures exact { result ≡ pair_lengths_fit (pairs_of pairs.now) }
+    ensures valid { IsTrue result → ArePairs (pairs_of pairs.now) }
+{
+    for pair in pairs.as_slice() {
+        if !pair_fits(pair) {
+            return false;
+        }
+    }
+    true
+}
+
+#[cycle(fit)]
+#[tactic(auto, using(crate::proofs::Lists::fits))]
+fn pair_fits(pair: &(Text, Datum)) -> bool
+    ensures exact { result ≡ entry_fits pair.now }
+    ensures valid { IsTrue result → IsEntry pair.now }
+{
+    text_fits(&pair.0) && fits(&pair.1)
+}
+
+#[tactic(auto, using(crate::proofs::Keeps::keeps))]
+fn put_text(s: &[u8], out: &mut Vec<u8>) -> Result<(), OutOfMemory>
+    requires { length s.now ≤ max_len }
+    ensures ok { OnOk result (out.new.items ≡ out.old.items ++ text s.now) }
+    ensures err { OnErr result (KeepsFront out.old.items out.new.items) }
+{
+    push_str_head(out, s.len() as u32)?;
+    out.extend_from_slice(s)?;
+    Ok(())
+}
+
+#[tactic(auto, using(crate::proofs::Keeps::keeps))]
+fn put_bytes(s: &[u8], out: &mut Vec<u8>) -> Result<(), OutOfMemory>
+    requires { length s.now ≤ max_len }
+    ensures ok { OnOk result (out.new.items ≡ out.old.items ++ (bin_head (length s.now) ++ s.now)) }
+    ensures err { OnErr result (KeepsFront out.old.items out.new.items) }
+{
+    push_bin_head(out, s.len() as u32)?;
+    out.extend_from_slice(s)?;
+    Ok(())
+}
+
+#[cycle(put)]
+#[tactic(auto, using(crate::proofs::Lists::puts))]
+fn put_items(items: &DatumList, out: &mut Vec<u8>) -> Result<(), OutOfMemory>
+    requires { item_lengths_fit (trees_of items.now) ≡ true }
+    ensures ok { OnOk result (out.new.items ≡ out.old.items ++ shortest_items (trees_of items.now)) }
+    ensures err { OnErr result (KeepsFront out.old.items out.new.items) }
+{
+    for item in items.as_slice() {
+        put_value(item, out)?;
+    }
+    Ok(())
+}
+
+#[cycle(put)]
+#[tactic(auto, using(crate::proofs::Lists::puts))]
+fn put_pairs(pairs: &PairList, out: &mut Vec<u8>) -> Result<(), OutOfMemory>
+    requires { pair_lengths_fit (pairs_of pairs.now) ≡ true }
+    ensures ok { OnOk result (out.new.items ≡ out.old.items ++ shortest_pairs (pairs_of pairs.now)) }
+    ensures err { OnErr result (KeepsFront out.old.items out.new.items) }
+{
+    for pair in pairs.as_slice() {
+        put_pair(pair, out)?;
+    }
+    Ok(())
+}
+
+#[cycle(put)]
+#[tactic(auto, using(crate::proofs::Lists::puts))]
+fn put_pair(pair: &(Text, Datum), out: &mut Vec<u8>) -> Result<(), OutOfMemory>
+    requires { entry_fits pair.now ≡ true }
+    ensures ok { OnOk result (out.new.items ≡ out.old.items ++ shortest_entry pair.now) }
+    ensures err { OnErr result (KeepsFront out.old.items out.new.items) }
+{
+    put_text(pair.0.as_str().as_bytes(), out)?;
+    put_value(&pair.1, out)?;
+    Ok(())
+}
+
+#[cycle(put)]
+#[tactic(auto, using(crate::proofs::Lists::puts), unfolding(crate::specs::Shortest::flag_byte))]
+fn put_value(value: &Datum, out: &mut Vec<u8>) -> Result<(), OutOfMemory>
+    requires { lengths_fit value.now ≡ true }
+    ensures ok { OnOk result (out.new.items ≡ out.old.items ++ shortest value.now) }
+    ensures err { OnErr result (KeepsFront out.old.items out.new.items) }
+{
+    match &value.node {
+        Node::Nil => out.push(0xc0)?,
+        Node::Flag(flag) => out.push(if *flag { 0xc3 } else { 0xc2 })?,
+        Node::Whole(whole) => push_whole(out, *whole)?,
+        Node::Words(text) => put_text(text.as_str().as_bytes(), out)?,
+        Node::Bytes(blob) => put_bytes(blob.as_bytes(), out)?,
+        Node::Items(items) => {
+            push_array_head(out, items.len() as u32)?;
+            put_items(items, out)?;
+        }
+        Node::Pairs(pairs) => {
+            push_map_head(out, pairs.len() as u32)?;
+            put_pairs(pairs, out)?;
+        }
+    }
+    Ok(())
+}
+
+/// Appends the shortest spelling of a value.
+pub fn encode(value: &Datum, out: &mut Vec<u8>) -> Result<(), EncodeFault>
+    ensures ok { OnOk result (out.new.items ≡ out.old.items ++ shortest value.now) }
+    ensures spelled { OnOk result (IsSpelling value.now (shortest value.now)) }
+    ensures deep { IsErrOf result EncodeFault.TooDeep ↔ (max_nesting < nesting value.now) }
+    ensures long { IsErrOf result EncodeFault.TooLong ↔ (nesting value.now ≤ max_nesting) × (lengths_fit value.now ≡ false) }
+    ensures err { OnErr result (out.new.items ≡ out.old.items) }
+{
+    if !nests_within(value, MAX_NESTING) {
+        return Err(EncodeFault::TooDeep);
+    }
+    if !fits(value) {
+        return Err(EncodeFault::TooLong);
+    }
+    let len = out.len();
+    if put_value(value, out).is_err() {
+        out.truncate(len);
+        return Err(EncodeFault::OutOfMemory);
+    }
+    Ok(())
+}

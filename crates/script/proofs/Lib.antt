@@ -1,0 +1,15 @@
+mod ByteTests
+mod LineLemmas
+mod NumberLemmas
+mod HexWords
+mod FrontLemmas
+mod TextLemmas
+mod Splits
+mod LineTexts
+mod StepWords
+mod PlainWords
+mod StepLines
+mod Counts
+mod Scripts
+mod ScriptLaws
+mod AnswersOfRead

@@ -1,0 +1,49 @@
+-- A text and its lines.
+use Rattle.std.proofs.Common.{◌≡◌, ℕ, Bool, true, false, cond, eqb, eqb-true, not, ◌&&◌, ◌==◌, List, [], ◌∷◌, ◌++◌, refl, sym, ap, ◌∙◌, inl, inr, if◌then◌else◌}
+use Rattle.std.specs.List.{list_all, flat_map}
+use Rattle.std.proofs.lemmas.Bool.{and_parts}
+use Rattle.script.specs.Spelling.{ended, stands_in_line}
+use Rattle.script.specs.Lines.{TextLine, lines_of, onto_line, line_bytes}
+use Rattle.script.proofs.ByteTests.{tested}
+
+not_false : (b : Bool) → not b ≡ true → b ≡ false
+not_false true h = cc
+not_false false h = refl
+
+-- a line in front of a text
+pub lines_of-front : (text rest : List ℕ) → list_all stands_in_line text ≡ true → lines_of (ended text ++ rest) ≡ record { text = text; has_end = true } ∷ lines_of rest
+lines_of-front [] rest h = refl
+lines_of-front (b ∷ text) rest h =
+    let p = and_parts (stands_in_line b) (list_all stands_in_line text) h in
+    rw (not_false (eqb b 10) p.0, lines_of-front text rest p.1) refl
+
+onto_bytes : (b : ℕ) (lines : List TextLine) → flat_map line_bytes (onto_line b lines) ≡ b ∷ flat_map line_bytes lines
+onto_bytes b [] = refl
+onto_bytes b (line ∷ lines) = by_end line.has_end line.text lines
+  where
+    by_end : (e : Bool) (text : List ℕ) (lines : List TextLine) → cond e (ended (b ∷ text)) (b ∷ text) ++ flat_map line_bytes lines ≡ b ∷ (cond e (ended text) text ++ flat_map line_bytes lines)
+    by_end true text lines = refl
+    by_end false text lines = refl
+
+-- a text is the bytes of its lines
+pub flat_map-lines_of : (bytes : List ℕ) → flat_map line_bytes (lines_of bytes) ≡ bytes
+flat_map-lines_of [] = refl
+flat_map-lines_of (b ∷ bytes) = elim (tested (eqb b 10)) [
+    | inl e ↦ rw (e, eqb-true b 10 e) (ap (λ bs. 10 ∷ bs) (flat_map-lines_of bytes))
+    | inr e ↦ rw e (onto_bytes b (lines_of bytes) ∙ ap (λ bs. b ∷ bs) (flat_map-lines_of bytes))
+  ]
+
+-- no line feed in a line
+abbrev pub lacks_feed : TextLine → Bool
+lacks_feed line = list_all stands_in_line line.text
+
+onto_lacks : (b : ℕ) (lines : List TextLine) → eqb b 10 ≡ false → list_all lacks_feed lines ≡ true → list_all lacks_feed (onto_line b lines) ≡ true
+onto_lacks b [] e h = rw e refl
+onto_lacks b (line ∷ lines) e h = rw e h
+
+pub lines_of-lack : (bytes : List ℕ) → list_all lacks_feed (lines_of bytes) ≡ true
+lines_of-lack [] = refl
+lines_of-lack (b ∷ bytes) = elim (tested (eqb b 10)) [
+    | inl e ↦ rw e (lines_of-lack bytes)
+    | inr e ↦ rw e (onto_lacks b (lines_of bytes) e (lines_of-lack bytes))
+  ]

@@ -1,0 +1,133 @@
+-- How a script is written. A step has exactly one text.
+use Rattle.std.specs.Prelude.{◌≡◌, ℕ, ◌-◌, ◌^◌, ◌≤◌, ◌==◌, nat_lt, List, [], ◌∷◌, ◌++◌, Bool, true, false, not, ◌&&◌, ◌||◌, if◌then◌else◌, codes, decimal, length}
+use Rattle.std.specs.List.{list_all, flat_map, join_with_byte}
+use Rattle.std.specs.Str.{is_utf8, bytes_eq}
+use Rattle.hex.specs.Hex.{encode_lower}
+use Rattle.mux_items.specs.declared.channel.ChannelKey.{ChannelKey}
+use Rattle.mux_run.specs.declared.steps.Side.{Side}
+use Rattle.mux_run.specs.declared.steps.Side.TheVariants.{A, B}
+use Rattle.mux_run.specs.declared.steps.Call.{Call}
+use Rattle.mux_run.specs.declared.steps.Call.TheVariants as call
+use Rattle.mux_run.specs.declared.steps.Step.{Step}
+use Rattle.mux_run.specs.declared.steps.Step.TheVariants as step
+use Rattle.mux_run.specs.Built.{AreBuilt}
+
+-- the letter of a side
+abbrev pub side_word : Side → List ℕ
+side_word A = codes "A"
+side_word B = codes "B"
+
+abbrev pub peer_of : Side → Side
+peer_of A = B
+peer_of B = A
+
+-- the side that offered a channel, as a side that says whether it made the offer itself names it
+abbrev pub offering_side : Side → Bool → Side
+offering_side side true = side
+offering_side side false = peer_of side
+
+-- a channel: the side that offered it and its id
+abbrev pub channel_word : Side → ChannelKey → List ℕ
+channel_word side key = side_word (offering_side side key.own) ++ decimal key.id
+
+-- what stands for an empty name and for no bytes
+abbrev pub hyphen : List ℕ
+hyphen = codes "-"
+
+abbrev pub name_word : List ℕ → List ℕ
+name_word [] = hyphen
+name_word (b ∷ bs) = b ∷ bs
+
+-- two hex digits in lower case for each byte
+abbrev pub bytes_word : List ℕ → List ℕ
+bytes_word [] = hyphen
+bytes_word (b ∷ bs) = encode_lower (b ∷ bs)
+
+-- the greatest count of its type stands for all that is there
+abbrev pub everything : ℕ
+everything = 2 ^ 64 - 1
+
+abbrev pub count_word : ℕ → List ℕ
+count_word count = if count == everything then codes "all" else decimal count
+
+-- the words of a call
+abbrev pub call_words : Side → Call → List (List ℕ)
+call_words side (call.Offer name window) = codes "offer" ∷ side_word side ∷ name_word name ∷ decimal window ∷ []
+call_words side (call.Accept key window) = codes "accept" ∷ side_word side ∷ channel_word side key ∷ decimal window ∷ []
+call_words side (call.Write key bytes) = codes "write" ∷ side_word side ∷ channel_word side key ∷ bytes_word bytes ∷ []
+call_words side (call.Read key max) = codes "read" ∷ side_word side ∷ channel_word side key ∷ decimal max ∷ []
+call_words side (call.Complete key) = codes "complete" ∷ side_word side ∷ channel_word side key ∷ []
+call_words side (call.Terminate key) = codes "terminate" ∷ side_word side ∷ channel_word side key ∷ []
+
+-- the words of a step
+abbrev pub step_words : Step → List (List ℕ)
+step_words (step.Call side c) = call_words side c
+step_words (step.Deliver side count) = codes "deliver" ∷ side_word side ∷ count_word count ∷ []
+step_words (step.End side) = codes "end" ∷ side_word side ∷ []
+
+-- the words of a step, joined by single spaces
+abbrev pub step_text : Step → List ℕ
+step_text s = join_with_byte 32 (step_words s)
+
+-- a line and the line feed that ends it
+abbrev pub ended : List ℕ → List ℕ
+ended text = text ++ 10 ∷ []
+
+-- the first line names the format, the second the version
+abbrev pub head_text : List ℕ
+head_text = ended (codes "script 1") ++ ended (codes "version 3")
+
+-- a line for each step
+abbrev pub step_lines : List Step → List ℕ
+step_lines steps = flat_map (λ s. ended (step_text s)) steps
+
+-- the text of a script: its head and the lines of its steps
+abbrev pub script_text : List Step → List ℕ
+script_text steps = head_text ++ step_lines steps
+
+-- a number that a script can name
+abbrev pub is_number : ℕ → Bool
+is_number n = nat_lt n (2 ^ 32)
+
+-- neither a space nor a line feed
+abbrev pub stands_in_word : ℕ → Bool
+stands_in_word b = not (b == 32 || b == 10)
+
+abbrev pub stands_in_line : ℕ → Bool
+stands_in_line b = not (b == 10)
+
+-- a text without a line feed
+abbrev pub is_line_text : List ℕ → Bool
+is_line_text text = is_utf8 text && list_all stands_in_line text
+
+-- a name that a script can name: a text that is one word or empty, and not the hyphen
+abbrev pub is_name : List ℕ → Bool
+is_name name = is_utf8 name && list_all stands_in_word name && not (bytes_eq name hyphen)
+
+abbrev pub is_byte : ℕ → Bool
+is_byte b = nat_lt b 256
+
+-- the numbers, the name and the bytes of a call have a word each
+abbrev pub is_spellable_call : Call → Bool
+is_spellable_call (call.Offer name window) = is_name name && is_number window
+is_spellable_call (call.Accept key window) = is_number key.id && is_number window
+is_spellable_call (call.Write key bytes) = is_number key.id && list_all is_byte bytes
+is_spellable_call (call.Read key max) = is_number key.id && is_number max
+is_spellable_call (call.Complete key) = is_number key.id
+is_spellable_call (call.Terminate key) = is_number key.id
+
+-- a step that a script can name
+abbrev pub is_spellable : Step → Bool
+is_spellable (step.Call side c) = is_spellable_call c
+is_spellable (step.Deliver side count) = is_number count || count == everything
+is_spellable (step.End side) = true
+
+-- a script has at most so many steps
+abbrev pub most_steps : ℕ
+most_steps = 100000
+
+-- steps that stand in a script of this stage of the program
+pub record AreScripted (steps : List Step) : Type 0 where
+  pub spellable : list_all is_spellable steps ≡ true
+  pub built : AreBuilt steps
+  pub few : length steps ≤ most_steps

@@ -1,0 +1,67 @@
+-- What a word of a script stands for.
+use Rattle.std.specs.Prelude.{ℕ, ◌^◌, nat_lt, nat_le, ◌==◌, List, [], ◌∷◌, Bool, true, false, ◌||◌, ◌&&◌, length, slice_index, Option, Some, None, option_and_then, if◌then◌else◌, codes, decimal}
+use Rattle.std.specs.List.{slice_split}
+use Rattle.std.specs.Result.{result_ok}
+use Rattle.std.specs.Str.{bytes_eq}
+use Rattle.std.specs.Str.Parse.{digits_value}
+use Rattle.hex.specs.Hex.{decode_of}
+use Rattle.mux_items.specs.declared.channel.ChannelKey.{ChannelKey}
+use Rattle.mux_run.specs.declared.steps.Side.{Side}
+use Rattle.mux_run.specs.declared.steps.Side.TheVariants.{A, B}
+use Rattle.script.specs.Spelling.{is_number, hyphen, bytes_word, everything}
+
+infixl 10 ◌>>=◌
+abbrev pub ◌>>=◌ : {A B : Type 0} → Option A → (A → Option B) → Option B
+o >>= f = option_and_then f o
+
+-- the words of a line: what stands between its spaces
+abbrev pub words_of : List ℕ → List (List ℕ)
+words_of line = slice_split (λ b. b == 32) line
+
+-- the value, if the word is how it is written
+abbrev pub if_written : {X : Type 0} → (X → List ℕ) → List ℕ → X → Option X
+if_written written word x = if bytes_eq (written x) word then Some x else None
+
+unfoldable pub side_in : List ℕ → Option Side
+side_in word = if bytes_eq word (codes "A") then Some A else if bytes_eq word (codes "B") then Some B else None
+
+-- decimal digits without a leading zero
+unfoldable pub number_in : List ℕ → Option ℕ
+number_in word = if is_number (digits_value 10 word) then if_written decimal word (digits_value 10 word) else None
+
+-- a sign stands in front, or a zero that isn't all
+abbrev pub has_other_front : List ℕ → Bool
+has_other_front word = slice_index word 0 == 43 || (slice_index word 0 == 48 && nat_lt 1 (length word))
+
+-- whether both are one side
+abbrev pub is_same_side : Side → Side → Bool
+is_same_side A A = true
+is_same_side A B = false
+is_same_side B A = false
+is_same_side B B = true
+
+-- the side that the first letter names, and what follows it
+unfoldable pub front_in : List ℕ → Option (Side × List ℕ)
+front_in [] = None
+front_in (letter ∷ digits) = side_in (letter ∷ []) >>= λ side. Some (side, digits)
+
+-- a channel as this side names it
+unfoldable pub channel_in : Side → List ℕ → Option ChannelKey
+channel_in side word = do
+  front ← front_in word
+  id ← number_in front.1
+  Some (record { id = id; own = is_same_side front.0 side })
+
+unfoldable pub name_in : List ℕ → Option (List ℕ)
+name_in word = if bytes_eq word hyphen then Some [] else if bytes_eq word [] then None else Some word
+
+-- hex digits in lower case, two for each byte
+unfoldable pub bytes_in : List ℕ → Option (List ℕ)
+bytes_in word = if bytes_eq word hyphen then Some [] else (result_ok (decode_of word) >>= if_written bytes_word word)
+
+-- a letter that no hex word has
+abbrev pub is_capital : ℕ → Bool
+is_capital b = nat_le 65 b && nat_le b 90
+
+unfoldable pub count_in : List ℕ → Option ℕ
+count_in word = if bytes_eq word (codes "all") then Some everything else number_in word

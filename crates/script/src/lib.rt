@@ -1,0 +1,19 @@
+//! Scripts: a version of the multiplexing protocol and the steps of two joined ends, as lines of text.
+#![tactic(auto)]
+
+mod fault;
+mod laws;
+mod lines;
+mod reading;
+mod reason;
+mod step_word;
+mod steps;
+mod words;
+
+pub use fault::ScriptFault;
+pub use laws::{bad_words_are_of_no_step, scripts_are_their_texts};
+pub use reading::{Script, read_script};
+pub use reason::ScriptReason;
+
+#[cfg(test)]
+mod tests;

@@ -1,0 +1,41 @@
+//! The lines of a text, one after another.
+
+ghost use Rattle.std.specs.Prelude.{◌≡◌, ◌==◌, ◌∷◌, ◌<◌, [], length, MatchOption, IfSome, position};
+ghost use Rattle.script.specs.Lines.{lines_of};
+
+/// A line without its line feed, whether one ends it, and what follows.
+#[derive(Clone, Copy, Debug)]
+pub struct Line<'a> {
+    pub text: &'a [u8],
+    pub has_end: bool,
+    pub rest: &'a [u8],
+}
+
+/// The first line.
+pub fn next_line(bytes: &[u8]) -> Option<Line<'_>>
+    ensures line { MatchOption result (lines_of bytes.now ≡ [])
+        (λ l. lines_of bytes.now ≡ record { text = l.text.now; has_end = l.has_end } ∷ lines_of l.rest.now) }
+    ensures shorter { IfSome result (λ l. length l.rest.now < length bytes.now) }
+{
+    if bytes.is_empty() {
+        return None;
+    }
+    match line_end(bytes) {
+        Some(end) => Some(Line {
+            text: &bytes[..end],
+            has_end: true,
+            rest: &bytes[end + 1..],
+        }),
+        None => Some(Line {
+            text: bytes,
+            has_end: false,
+            rest: &bytes[bytes.len()..],
+        }),
+    }
+}
+
+fn line_end(bytes: &[u8]) -> Option<usize>
+    ensures { result ≡ position (λ b. b == 10) bytes.now }
+{
+    bytes.iter().position(|byte| *byte == b'\n')
+}

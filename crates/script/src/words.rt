@@ -1,0 +1,117 @@
+//! The words of a line, and what each stands for.
+
+ghost use Rattle.std.specs.Prelude.{◌≡◌, map, IfOk, Some, None};
+ghost use Rattle.script.specs.Words.{words_of, side_in, number_in, channel_in, name_in, bytes_in, count_in, has_other_front, front_in, is_capital};
+ghost use Rattle.std.specs.Option.{option_map};
+ghost use Rattle.std.specs.List.{list_any};
+
+use hex::FromHexError;
+use mux_items::ChannelKey;
+use mux_run::Side;
+use std::alloc::Global;
+use wire_base::{Blob, OutOfMemory, Text};
+
+/// What stands between the spaces of a line.
+pub fn words(alloc: Global, line: &str) -> Result<Vec<&str>, OutOfMemory>
+    ensures { IfOk result (λ v. map (λ w. w.now) v.items ≡ words_of line.now) }
+{
+    Ok(line.split(' ').collect(alloc)?)
+}
+
+#[tactic(auto, unfolding(crate::specs::Words::side_in))]
+pub fn side(word: &str) -> Option<Side>
+    ensures { result ≡ side_in word.now }
+{
+    match word {
+        "A" => Some(Side::A),
+        "B" => Some(Side::B),
+        _ => None,
+    }
+}
+
+#[tactic(auto, using(crate::proofs::NumberLemmas::numbers))]
+pub fn number(word: &str) -> Option<u32>
+    ensures { result ≡ number_in word.now }
+{
+    if begins_no_number(word) {
+        None
+    } else {
+        word.parse::<u32>().ok()
+    }
+}
+
+/// Whether a sign stands in front, or a zero that isn't all.
+fn begins_no_number(word: &str) -> bool
+    ensures { result ≡ has_other_front word.now }
+{
+    match word.as_bytes().first() {
+        Some(b'+') => true,
+        Some(b'0') => word.len() > 1,
+        _ => false,
+    }
+}
+
+#[tactic(auto, unfolding(crate::specs::Words::name_in))]
+pub fn name(alloc: Global, word: &str) -> Result<Option<Text>, OutOfMemory>
+    ensures { IfOk result (λ o. o ≡ name_in word.now) }
+{
+    match word {
+        "-" => Ok(Some(Text::from_str(alloc, "")?)),
+        "" => Ok(None),
+        _ => Ok(Some(Text::from_str(alloc, word)?)),
+    }
+}
+
+/// The side that the first letter names, and what follows it.
+fn front(word: &str) -> Option<(Side, &str)>
+    ensures { option_map (λ f. (f.0, f.1.now)) result ≡ front_in word.now }
+{
+    match word.strip_prefix('A') {
+        Some(digits) => Some((Side::A, digits)),
+        None => Some((Side::B, word.strip_prefix('B')?)),
+    }
+}
+
+/// A channel as `side` names it.
+#[tactic(auto, unfolding(crate::specs::Words::channel_in))]
+pub fn channel(side: Side, word: &str) -> Option<ChannelKey>
+    ensures { result ≡ channel_in side word.now }
+{
+    let (offering, digits) = front(word)?;
+    let id = u64::from(number(digits)?);
+    let own = offering == side;
+    Some(ChannelKey { id, own })
+}
+
+#[tactic(auto, using(crate::proofs::HexWords::hex_words))]
+pub fn bytes(alloc: Global, word: &str) -> Result<Option<Blob>, OutOfMemory>
+    ensures { IfOk result (λ o. o ≡ bytes_in word.now) }
+{
+    if word == "-" {
+        return Ok(Some(Blob::from_bytes(alloc, &[])?));
+    }
+    if word.is_empty() || has_capital(word) {
+        return Ok(None);
+    }
+    match hex::decode(alloc, word.as_bytes()) {
+        Ok(bytes) => Ok(Some(Blob::from_bytes(alloc, bytes.as_slice())?)),
+        Err(FromHexError::OutOfMemory) => Err(OutOfMemory),
+        Err(_) => Ok(None),
+    }
+}
+
+fn has_capital(word: &str) -> bool
+    ensures { result ≡ list_any is_capital word.now }
+{
+    word.as_bytes().iter().any(|byte| byte.is_ascii_uppercase())
+}
+
+#[tactic(auto, unfolding(crate::specs::Words::count_in))]
+pub fn count(word: &str) -> Option<u64>
+    ensures { result ≡ count_in word.now }
+{
+    match word {
+        "all" => Some(u64::MAX),
+        _ => number(word).map(|n| u64::from(n)),
+    }
+}

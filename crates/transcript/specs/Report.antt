@@ -1,0 +1,85 @@
+-- The report of a run.
+use Rattle.std.specs.Prelude.{ℕ, ◌+◌, List, [], ◌∷◌, ◌++◌, length, drop, filter, codes, not, Option, Some, None, Bool, true, false}
+use Rattle.std.specs.List.{flat_map}
+use Rattle.std.specs.Fmt.{decimal}
+use Rattle.wire_base.specs.declared.frame.Version.{Version}
+use Rattle.wire_base.specs.declared.state.Cause.{Cause}
+use Rattle.frame_text.specs.Hello.{hello}
+use Rattle.mux_items.specs.declared.channel.ChannelKey.{ChannelKey}
+use Rattle.mux_items.specs.declared.channel.Tally.{Tally}
+use Rattle.mux_items.specs.Items.{Item, ended}
+use Rattle.mux_items.specs.Views.{tally_of, known_keys}
+use Rattle.mux_run.specs.declared.steps.Side.{Side}
+use Rattle.mux_run.specs.declared.steps.Side.TheVariants.{A, B}
+use Rattle.mux_run.specs.declared.steps.Step.{Step}
+use Rattle.mux_run.specs.declared.answers.DuoAnswer.{DuoAnswer}
+use Rattle.mux_run.specs.declared.answers.DuoAnswer.TheVariants as duo
+use Rattle.mux_run.specs.Run.{World, Terms, out, run, happens, side_of, start}
+use Rattle.mux_run.specs.Answers.{answer}
+use Rattle.transcript.specs.Words.{line_feed, side_text, channel_text, cause_text, phase_text, reply_text, event_line, emitted_line, offering_side}
+
+-- what a step answered, and the lines of its events
+abbrev pub answer_lines : Side → DuoAnswer → List ℕ
+answer_lines side (duo.Replied r events) = reply_text side r ++ line_feed ++ flat_map (event_line side) events
+answer_lines side (duo.Delivered count events) = codes "delivered " ++ decimal count ++ line_feed ++ flat_map (event_line side) events
+answer_lines side duo.Ended = codes "ended" ++ line_feed
+answer_lines side duo.OutOfMemory = []
+
+-- what was emitted since so many bytes were
+abbrev pub newly_out : Version → (nonce : List ℕ) → (before now : List Item) → List ℕ
+newly_out v nonce before now = drop (length (out v nonce before)) (out v nonce now)
+
+-- the k-th step: its answer, its events, and what either side emitted in it
+abbrev pub step_lines : Terms → (k : ℕ) → Step → World → List ℕ
+step_lines terms k s w =
+    let after = happens terms s w in
+    decimal k ++ codes " " ++ answer_lines (side_of s) (answer terms s w)
+    ++ emitted_line A (newly_out terms.version terms.nonce_a w.a.items after.a.items)
+    ++ emitted_line B (newly_out terms.version terms.nonce_b w.b.items after.b.items)
+
+-- the steps from the k-th on, made in this world
+abbrev pub steps_lines : Terms → (k : ℕ) → World → List Step → List ℕ
+steps_lines terms k w [] = []
+steps_lines terms k w (s ∷ steps) = step_lines terms k s w ++ steps_lines terms (k + 1) (happens terms s w) steps
+
+abbrev pub state_text : Option Cause → List ℕ
+state_text None = codes "running"
+state_text (Some c) = codes "ended " ++ cause_text c
+
+abbrev pub tally_text : Tally → List ℕ
+tally_text t =
+    phase_text t.phase ++ codes " written " ++ decimal t.written ++ codes " emitted " ++ decimal t.emitted
+    ++ codes " taken " ++ decimal t.taken ++ codes " handed " ++ decimal t.handed
+
+abbrev pub channel_line_of : Side → ChannelKey → Option Tally → List ℕ
+channel_line_of side key None = []
+channel_line_of side key (Some t) = side_text side ++ codes " " ++ channel_text side key ++ codes " " ++ tally_text t ++ line_feed
+
+abbrev pub channel_line : Version → Side → List Item → ChannelKey → List ℕ
+channel_line v side items key = channel_line_of side key (tally_of v key items)
+
+abbrev pub is_a : Side → Bool
+is_a A = true
+is_a B = false
+
+-- the channels that are known at a side: those that A offered, then those that B offered, each by rising id
+abbrev pub summary_keys : Side → List Item → List ChannelKey
+summary_keys side items =
+    filter (λ key. is_a (offering_side side key)) (known_keys items) ++ filter (λ key. not (is_a (offering_side side key))) (known_keys items)
+
+-- how a side stands at the end, and its channels
+abbrev pub summary : Version → Side → List Item → List ℕ
+summary v side items =
+    side_text side ++ codes " " ++ state_text (ended items) ++ line_feed
+    ++ flat_map (channel_line v side items) (summary_keys side items)
+
+-- the report of the run of the steps
+abbrev pub report_text : Terms → List Step → List ℕ
+report_text terms steps =
+    codes "report 1" ++ line_feed ++ codes "0 start" ++ line_feed
+    ++ emitted_line A (hello terms.version terms.nonce_a) ++ emitted_line B (hello terms.version terms.nonce_b)
+    ++ steps_lines terms 1 start steps
+    ++ codes "state" ++ line_feed
+    ++ summary terms.version A (run terms steps).a.items
+    ++ summary terms.version B (run terms steps).b.items
+    ++ codes "end" ++ line_feed

@@ -1,0 +1,91 @@
+-- The words of a report.
+use Rattle.std.specs.Prelude.{ℕ, List, [], ◌∷◌, ◌++◌, codes, if◌then◌else◌}
+use Rattle.std.specs.Fmt.{decimal}
+use Rattle.hex.specs.Hex.{encode_lower}
+use Rattle.frame_text.specs.Frames.{is_empty}
+use Rattle.wire_base.specs.Numbers.{reason_number, reason_name, refusal_number, refusal_name}
+use Rattle.wire_base.specs.declared.refusal.Refusal.{Refusal}
+use Rattle.wire_base.specs.declared.state.Cause.{Cause}
+use Rattle.wire_base.specs.declared.state.Cause.TheVariants as cause
+use Rattle.mux_items.specs.declared.channel.ChannelKey.{ChannelKey}
+use Rattle.mux_items.specs.declared.channel.Phase.{Phase}
+use Rattle.mux_items.specs.declared.channel.Phase.TheVariants as phase
+use Rattle.mux_items.specs.declared.channel.MuxEvent.{MuxEvent}
+use Rattle.mux_items.specs.declared.channel.MuxEvent.TheVariants as mux
+use Rattle.mux_run.specs.declared.steps.Side.{Side}
+use Rattle.mux_run.specs.declared.steps.Side.TheVariants.{A, B}
+use Rattle.mux_run.specs.declared.answers.EndEvent.{EndEvent}
+use Rattle.mux_run.specs.declared.answers.EndEvent.TheVariants as event
+use Rattle.mux_run.specs.declared.answers.Reply.{Reply}
+use Rattle.mux_run.specs.declared.answers.Reply.TheVariants as reply
+
+-- the byte that ends a line
+abbrev pub line_feed : List ℕ
+line_feed = 10 ∷ []
+
+abbrev pub side_text : Side → List ℕ
+side_text A = codes "A"
+side_text B = codes "B"
+
+abbrev pub other_side : Side → Side
+other_side A = B
+other_side B = A
+
+-- the side that offered a channel, by the end that names it
+abbrev pub offering_side : Side → ChannelKey → Side
+offering_side side key = if key.own then side else other_side side
+
+-- a channel by its offering side and its id, as A1
+abbrev pub channel_text : Side → ChannelKey → List ℕ
+channel_text side key = side_text (offering_side side key) ++ decimal key.id
+
+-- bytes in hex, and `-` for none
+abbrev pub hex_text : List ℕ → List ℕ
+hex_text bytes = if is_empty bytes then codes "-" else encode_lower bytes
+
+abbrev pub cause_text : Cause → List ℕ
+cause_text cause.InputEnded = codes "input"
+cause_text cause.PeerCompleted = codes "completed"
+cause_text cause.ChannelClosed = codes "closed"
+cause_text cause.Spent = codes "spent"
+cause_text (cause.Refused place reason) = decimal place.0 ++ codes " " ++ decimal (reason_number reason) ++ codes " " ++ reason_name reason
+
+abbrev pub phase_text : Phase → List ℕ
+phase_text phase.Waiting = codes "waiting"
+phase_text phase.Heard = codes "heard"
+phase_text phase.Live = codes "live"
+phase_text phase.Closing = codes "closing"
+phase_text phase.Closed = codes "closed"
+
+abbrev pub refusal_text : Refusal → List ℕ
+refusal_text r = codes "refused " ++ decimal (refusal_number r) ++ codes " " ++ refusal_name r
+
+abbrev pub reply_text : Side → Reply → List ℕ
+reply_text side reply.Done = codes "ok"
+reply_text side (reply.Made key) = codes "channel " ++ channel_text side key
+reply_text side (reply.Bytes bytes) = codes "bytes " ++ hex_text bytes
+reply_text side (reply.Refused r) = refusal_text r
+reply_text side reply.OutOfMemory = []
+
+abbrev pub mux_event_text : Side → MuxEvent → List ℕ
+mux_event_text side mux.Ready = codes "ready"
+mux_event_text side (mux.Offered key) = codes "offered " ++ channel_text side key
+mux_event_text side (mux.Rejected key) = codes "rejected " ++ channel_text side key
+mux_event_text side (mux.Accepted key) = codes "accepted " ++ channel_text side key
+mux_event_text side (mux.Content key count) = codes "content " ++ channel_text side key ++ codes " " ++ decimal count
+mux_event_text side (mux.Completed key) = codes "completed " ++ channel_text side key
+mux_event_text side (mux.Closed key) = codes "closed " ++ channel_text side key
+mux_event_text side (mux.Credit key count) = codes "credit " ++ channel_text side key ++ codes " " ++ decimal count
+mux_event_text side (mux.Ignored key) = codes "ignored " ++ channel_text side key
+
+abbrev pub event_text : Side → EndEvent → List ℕ
+event_text side (event.Mux e) = mux_event_text side e
+event_text side (event.Ended c) = codes "ended " ++ cause_text c
+
+-- a line of a side: a space, the side, a space and the words
+abbrev pub event_line : Side → EndEvent → List ℕ
+event_line side e = codes " " ++ side_text side ++ codes " " ++ event_text side e ++ line_feed
+
+-- the bytes that a side emitted, as a line where there are any
+abbrev pub emitted_line : Side → List ℕ → List ℕ
+emitted_line side bytes = if is_empty bytes then [] else codes " " ++ side_text side ++ codes "> " ++ encode_lower bytes ++ line_feed

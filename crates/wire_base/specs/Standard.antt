@@ -1,0 +1,20 @@
+-- What became of the calls of a source and a sink over the system.
+use Rattle.std.specs.Prelude.{ℕ, Bool}
+use Rattle.wire_base.specs.declared.standard.StdSource.{StdSource}
+use Rattle.wire_base.specs.declared.standard.StdSink.{StdSink}
+
+-- how many reads failed
+abbrev pub std_source_faults : {R : Type 0} → StdSource R → ℕ
+std_source_faults s = s.faults
+
+-- whether the last read answered 0
+abbrev pub std_source_ended : {R : Type 0} → StdSource R → Bool
+std_source_ended s = s.ended
+
+-- how many writes and flushes failed
+abbrev pub std_sink_faults : {W : Type 0} → StdSink W → ℕ
+std_sink_faults s = s.faults
+
+-- whether the last call was a flush that answered Ok
+abbrev pub std_sink_flushed : {W : Type 0} → StdSink W → Bool
+std_sink_flushed s = s.flushed
