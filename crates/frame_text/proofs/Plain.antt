@@ -1,11 +1,11 @@
 -- Frames of version 1: what is spelled is read, and what is read is spelled.
-use Rattle.std.proofs.Common.{◌≡◌, ℕ, ◌+◌, ◌-◌, ◌^◌, ◌≤◌, ◌<◌, Bool, true, false, cond, ltb, List, [], ◌∷◌, ◌++◌, length, take, drop, Option, Some, None, Result, Ok, Err, refl, sym, ap, subst, ◌∙◌, arith, length-append, append_assoc, inl, inr, ◌⊎◌}
-use Rattle.std.specs.Prelude.{◌&&◌, nat_lt, nat_le, ◌==◌}
+use Rattle.std.proofs.Common.{◌≡◌, ℕ, ◌+◌, ◌-◌, ◌≤◌, ◌<◌, Bool, true, false, cond, ltb, List, [], ◌∷◌, ◌++◌, length, take, drop, Option, Some, None, Ok, Err, refl, sym, ap, subst, ◌∙◌, arith, length-append, append_assoc, inl, inr}
+use Rattle.std.specs.Prelude.{◌&&◌, nat_lt, ◌==◌}
 use Rattle.std.specs.Int.{Width, w8, w16, w32, byte_len, to_be_bytes, from_be_bytes}
 use Rattle.std.specs.Str.{is_utf8}
 use Rattle.std.proofs.lemmas.Nat.{from_be_bytes-to_be_bytes_2, from_be_bytes-to_be_bytes_4}
-use Rattle.std.proofs.lemmas.Bool.{ltb-true, ltb-false, le-ltb, lt-ltb, leb-true, le-leb, eqb-true, eqb-false, ne_eqb, and_parts, and_from}
-use Rattle.std.proofs.lemmas.List.{take_at, drop_at, append-nil, take-append-drop, length-take}
+use Rattle.std.proofs.lemmas.Bool.{ltb-true, ltb-false, le-ltb, lt-ltb, leb-true, le-leb, eqb-false, ne_eqb, and_parts, and_from}
+use Rattle.std.proofs.lemmas.List.{take_at, drop_at, take-append-drop, length-take}
 use Rattle.wire_base.specs.declared.reason.Reason.{Reason}
 use Rattle.wire_base.specs.declared.reason.Reason.TheVariants.{BadCode, BadShape, BadId, BadName}
 use Rattle.wire_base.specs.declared.frame.Version.TheVariants as version
@@ -16,7 +16,6 @@ use Rattle.wire_base.specs.declared.frame.Origin.TheVariants as origin
 use Rattle.wire_base.specs.declared.frame.Payload.{Payload}
 use Rattle.wire_base.specs.declared.frame.Payload.TheVariants as payload
 use Rattle.wire_base.specs.declared.frame.Frame.{Frame}
-use Rattle.frame_text.specs.declared.fault.Fault.{Fault}
 use Rattle.frame_text.specs.declared.fault.Fault.TheVariants.{Ends, Breaks}
 use Rattle.frame_text.specs.Frames.{code_number, plain_payload, fits_code, fits_id, fits_origin, fits_length, fits, text}
 use Rattle.frame_text.specs.Front.{Whole}
@@ -24,8 +23,8 @@ use Rattle.frame_text.specs.Reading.{Reading, Reader, ◌>>=◌, follow, done, a
 use Rattle.frame_text.specs.Spelling.{AreBytes, CarriesPlain, PlainFrameIs}
 use Rattle.frame_text.proofs.Within.{tested}
 use Rattle.frame_text.proofs.Again.{front_of-again}
-use Rattle.frame_text.proofs.Found.{Followed, followed, read_as, pair_is, some_is, Allowed, allowed-found, code_of-found, Placed, placed-found, whole, whole_is, whole_frame}
-use Rattle.frame_text.proofs.Shortest.{bytes_left, bytes_right, bytes-take, below-2, below-4}
+use Rattle.frame_text.proofs.Found.{followed, read_as, pair_is, some_is, allowed-found, code_of-found, placed-found, whole, whole_is, whole_frame}
+use Rattle.frame_text.proofs.Shortest.{bytes_left, bytes_right, below-2, below-4}
 
 -- ---- what is spelled is read
 
@@ -104,15 +103,15 @@ field-found w make reason bytes y rest e =
     elim (tested (ltb (length bytes) k)) [
       | inl t ↦ let f : Err Ends ≡ read_as y rest = rw t at e in absurd cc
       | inr t ↦
-        let long : k ≤ length bytes = ltb-false (length bytes) k t in
-        let f : allowed (length bytes) reason (make (from_be_bytes w (take k bytes))) (drop k bytes) ≡ read_as y rest = rw t at e in
-        let a = allowed-found (length bytes) reason (make (from_be_bytes w (take k bytes))) (drop k bytes) y rest f in
-        record {
-          text = take k bytes;
-          len = simp length-take (omega arith);
-          makes = a.says;
-          parts = sym (take-append-drop k bytes) ∙ ap (λ (s : List ℕ). take k bytes ++ s) a.after_is;
-        }
+          let long : k ≤ length bytes = ltb-false (length bytes) k t in
+          let f : allowed (length bytes) reason (make (from_be_bytes w (take k bytes))) (drop k bytes) ≡ read_as y rest = rw t at e in
+          let a = allowed-found (length bytes) reason (make (from_be_bytes w (take k bytes))) (drop k bytes) y rest f in
+          record {
+            text = take k bytes;
+            len = simp length-take (omega arith);
+            makes = a.says;
+            parts = sym (take-append-drop k bytes) ∙ ap (λ (s : List ℕ). take k bytes ++ s) a.after_is;
+          }
     ]
 
 record Cut (n : ℕ) (bytes x rest : List ℕ) : Type 0 where
@@ -125,33 +124,34 @@ bytes-found n bytes x rest e =
     elim (tested (ltb (length bytes) n)) [
       | inl t ↦ let f : Err Ends ≡ read_as x rest = rw t at e in absurd cc
       | inr t ↦
-        let long : n ≤ length bytes = ltb-false (length bytes) n t in
-        let f : read_as (take n bytes) (drop n bytes) ≡ read_as x rest = rw t at e in
-        subst (λ (p : List ℕ × List ℕ). Cut n bytes p.0 p.1) (pair_is (take n bytes, drop n bytes) (x, rest) f)
-        (record { len = simp length-take (omega arith); parts = sym (take-append-drop n bytes) })
+          let long : n ≤ length bytes = ltb-false (length bytes) n t in
+          let f : read_as (take n bytes) (drop n bytes) ≡ read_as x rest = rw t at e in
+          subst (λ (p : List ℕ × List ℕ). Cut n bytes p.0 p.1) (pair_is (take n bytes, drop n bytes) (x, rest) f)
+          (record { len = simp length-take (omega arith); parts = sym (take-append-drop n bytes) })
     ]
 
+not_none : (t : Bool) (o : Option Code) (c : Code) → cond t None o ≡ Some c → o ≡ Some c
+not_none true o c e = absurd cc
+not_none false o c e = e
+
 code-found : (n : ℕ) (c : Code) → plain_code n ≡ Some c → n ≡ code_number c
-code-found n c e = elim (tested (n == 5)) [
-    | inl t ↦ let f : None ≡ Some c = rw t at e in absurd cc
-    | inr t ↦ code_of-found n c (rw t at e)
-  ]
+code-found n c e = code_of-found n c (not_none (n == 5) (code_of n) c e)
 
 id-found : (n m : ℕ) → plain_id n ≡ Some m → (n ≡ m) × (0 < m)
 id-found n m e = elim (tested (n == 0)) [
-    | inl t ↦ let f : None ≡ Some m = rw t at e in absurd cc
-    | inr t ↦
+  | inl t ↦ let f : None ≡ Some m = rw t at e in absurd cc
+  | inr t ↦
       let f : n ≡ m = some_is n m (rw t at e) in
       let other = eqb-false n 0 t in
       (f, omega (arith, other, f))
-  ]
+]
 
 plain_carried-found : (c : Code) (bytes : List ℕ) (p : Payload) → plain_code (code_number c) ≡ Some c → plain_carried c bytes ≡ Ok p → CarriesPlain c p bytes
 unfolding plain_carried
 plain_carried-found code.Offer bytes p is e = elim (tested (is_utf8 bytes)) [
-    | inl t ↦ subst (λ q. CarriesPlain code.Offer q bytes) (whole_is (payload.Offer bytes None) p (rw t at e)) (refl, t)
-    | inr t ↦ let f : Err (Breaks (length bytes) BadName) ≡ whole p = rw t at e in absurd cc
-  ]
+  | inl t ↦ subst (λ q. CarriesPlain code.Offer q bytes) (whole_is (payload.Offer bytes None) p (rw t at e)) (refl, t)
+  | inr t ↦ let f : Err (Breaks (length bytes) BadName) ≡ whole p = rw t at e in absurd cc
+]
 plain_carried-found code.OfferAccepted bytes p is e = subst (λ q. CarriesPlain code.OfferAccepted q bytes) (whole_is (payload.Accepted None) p e) tt
 plain_carried-found code.Content bytes p is e = subst (λ q. CarriesPlain code.Content q bytes) (whole_is (payload.Content bytes) p e) refl
 plain_carried-found code.ContentWritingCompleted bytes p is e = subst (λ q. CarriesPlain code.ContentWritingCompleted q bytes) (whole_is payload.Nothing p e) tt
@@ -215,7 +215,7 @@ plain_at-found bytes f rest e =
         parts = refl;
       };
       parts = at.parts ∙ ap (λ (s : List ℕ). s ++ a.rest) one
-        ∙ ap (λ (s : List ℕ). code_number a.value ∷ s) (bt.parts ∙ ap (λ (s : List ℕ). bt.text ++ s) (ct.parts ∙ ap (λ (s : List ℕ). ct.text ++ s) (gt.parts ∙ ap (λ (s : List ℕ). g.value ++ s) q.after_is)) ∙ simp append_assoc);
+          ∙ ap (λ (s : List ℕ). code_number a.value ∷ s) (bt.parts ∙ ap (λ (s : List ℕ). bt.text ++ s) (ct.parts ∙ ap (λ (s : List ℕ). ct.text ++ s) (gt.parts ∙ ap (λ (s : List ℕ). g.value ++ s) q.after_is)) ∙ simp append_assoc);
     })
 
 record FoundFront (bytes : List ℕ) (f : Frame) (size : ℕ) : Type 0 where
@@ -271,9 +271,10 @@ carries-text code.OfferAccepted (payload.Accepted None) fit = tt
 carries-text code.Content (payload.Content bytes) fit = refl
 carries-text code.ContentWritingCompleted payload.Nothing fit = tt
 carries-text code.ChannelTerminated payload.Nothing fit = tt
+carries-text code.ContentProcessed (payload.Processed count) fit = absurd cc
 carries-text c p fit = absurd cc
 
-plain_text_is : (f : Frame) → fits version.One f ≡ true → PlainFrameIs f (text version.One f)
+pub plain_text_is : (f : Frame) → fits version.One f ≡ true → PlainFrameIs f (text version.One f)
 plain_text_is f e =
     let q = fitting f e in
     record {
@@ -318,6 +319,6 @@ spelled_plain_fits f b h is =
     let most : length (plain_payload f.payload) ≤ 0xffff = omega (arith, few, is.is_size, p.1) in
     and_from (c && i && o) (fits_length version.One f.payload)
     (and_from (c && i) o
-      (and_from c i p.0 (and_from (nat_lt 0 f.id) (nat_lt f.id 0x100000000) (lt-ltb 0 f.id is.some_id) (lt-ltb f.id 0x100000000 id_below)))
-      (origin-fits f.origin is.is_origin))
+    (and_from c i p.0 (and_from (nat_lt 0 f.id) (nat_lt f.id 0x100000000) (lt-ltb 0 f.id is.some_id) (lt-ltb f.id 0x100000000 id_below)))
+    (origin-fits f.origin is.is_origin))
     (le-leb (length (plain_payload f.payload)) 0xffff most)

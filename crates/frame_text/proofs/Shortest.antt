@@ -44,7 +44,7 @@ pub bytes_right : (a b : List ℕ) → AreBytes (a ++ b) → AreBytes b
 bytes_right [] b h = h
 bytes_right (x ∷ a) b h = bytes_right a b (λ k. h (suc k))
 
-bytes-take : (n : ℕ) (bytes : List ℕ) → AreBytes bytes → AreBytes (take n bytes)
+pub bytes-take : (n : ℕ) (bytes : List ℕ) → AreBytes bytes → AreBytes (take n bytes)
 bytes-take n bytes h = bytes_left (take n bytes) (drop n bytes) (rw (take-append-drop n bytes) h)
 
 -- ---- how long shortest heads are
@@ -115,10 +115,10 @@ str-below_2 n lt = elim (cases_lt n 0x100) [
 below-1 : (bytes : List ℕ) → AreBytes bytes → from_be_bytes w8 bytes < 0x100
 below-1 bytes h = omega (arith, h 0)
 
-below-2 : (bytes : List ℕ) → AreBytes bytes → from_be_bytes w16 bytes < 0x10000
+pub below-2 : (bytes : List ℕ) → AreBytes bytes → from_be_bytes w16 bytes < 0x10000
 below-2 bytes h = omega (arith, h 0, h 1)
 
-below-4 : (bytes : List ℕ) → AreBytes bytes → from_be_bytes w32 bytes < 0x100000000
+pub below-4 : (bytes : List ℕ) → AreBytes bytes → from_be_bytes w32 bytes < 0x100000000
 below-4 bytes h = omega (arith, h 0, h 1, h 2, h 3)
 
 number-wide : (w : Width) (bytes : List ℕ) → AreBytes bytes → length (unsigned_text (from_be_bytes w bytes)) ≤ byte_len w + 1
