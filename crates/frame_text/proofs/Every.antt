@@ -1,5 +1,5 @@
 -- The laws of every version.
-use Rattle.std.proofs.Common.{◌≡◌, ℕ, true, List, [], ◌∷◌, ◌++◌, length, take, refl, sym, ◌∙◌, arith, length-append}
+use Rattle.std.proofs.Common.{◌≡◌, ℕ, ◌≤◌, true, List, [], ◌∷◌, ◌++◌, length, take, refl, sym, ◌∙◌, arith, length-append}
 use Rattle.std.proofs.lemmas.List.{append-nil}
 use Rattle.wire_base.specs.declared.frame.Version.{Version}
 use Rattle.wire_base.specs.declared.frame.Version.TheVariants as version
@@ -58,3 +58,9 @@ one_spelling v f g b more is other =
     let both : Whole f (length b) ≡ Whole g (length (b ++ more)) = sym first ∙ second in
     let size = size_is f g (length b) (length (b ++ more)) both in
     (frame_is f g (length b) (length (b ++ more)) both, nothing more (omega (arith, size, length-append b more)))
+
+-- no spelling is shorter than the text
+pub text-shortest : (v : Version) (f : Frame) (b : List ℕ) → AreBytes b → FrameIs v f b → length (text v f) ≤ length b
+text-shortest version.One f b h is = plain.plain_text-shortest f b is
+text-shortest version.Two f b h is = shortest.packed_text-shortest version.Two f b refl h is
+text-shortest version.Three f b h is = shortest.packed_text-shortest version.Three f b refl h is

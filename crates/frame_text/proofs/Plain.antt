@@ -322,3 +322,12 @@ spelled_plain_fits f b h is =
     (and_from c i p.0 (and_from (nat_lt 0 f.id) (nat_lt f.id 0x100000000) (lt-ltb 0 f.id is.some_id) (lt-ltb f.id 0x100000000 id_below)))
     (origin-fits f.origin is.is_origin))
     (le-leb (length (plain_payload f.payload)) 0xffff most)
+
+-- no spelling is shorter than the text
+pub plain_text-shortest : (f : Frame) (b : List ℕ) → PlainFrameIs f b → length (text version.One f) ≤ length b
+plain_text-shortest f b is =
+    let p = carries-fits f.code f.payload is.bytes is.carries in
+    let size = to_be_bytes w16 (length (plain_payload f.payload)) in
+    let mine : length (text version.One f) ≡ 7 + length (plain_payload f.payload) = length-append ((code_number f.code ∷ to_be_bytes w32 f.id) ++ size) (plain_payload f.payload) in
+    let given : length b ≡ length (code_number f.code ∷ (is.id ++ (is.size ++ is.bytes))) = ap length is.parts in
+    omega (arith, p.1, mine, given, length-append is.id (is.size ++ is.bytes), length-append is.size is.bytes, is.id_len, is.size_len)

@@ -43,6 +43,8 @@ pub fn front_is_spelled()
         FrameIs v f b → front v (b ++ rest) ≡ Whole f (length b) }
     ensures front_text { (v : Version) (f : Frame) (rest : List ℕ) → fits v f ≡ true →
         front v (text v f ++ rest) ≡ Whole f (length (text v f)) }
+    ensures shortest { (v : Version) (f : Frame) (b : List ℕ) → AreBytes b →
+        FrameIs v f b → length (text v f) ≤ length b }
     // A spelling that begins another is that one, of the same frame.
     ensures one_spelling { (v : Version) (f g : Frame) (b more : List ℕ) →
         FrameIs v f b → FrameIs v g (b ++ more) → (f ≡ g) × (more ≡ []) }
