@@ -6,6 +6,7 @@ mod encode_fault;
 mod encoder;
 mod fault;
 mod laws;
+mod limits;
 mod step;
 
 pub use decoder::decode;
