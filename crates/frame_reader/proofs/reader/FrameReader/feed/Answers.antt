@@ -1,0 +1,7 @@
+use Rattle.std.proofs.Common.{arith}
+use Rattle.std.proofs.lemmas.Grind.{common_steps}
+use Rattle.frame_reader.proofs.Streams.{reads-fed}
+use Rattle.frame_reader.proofs.reader.FrameReader.feed.Goals as goal
+
+pub returns-clause-reads : goal.returns-clause-reads
+returns-clause-reads g c = λ start stream given h. reads-fed c.args.self.now _ start stream given c.args.piece.now (grind (arith, common_steps)) h
