@@ -1,5 +1,5 @@
 -- Readings of whole streams. A stream is all bytes that were fed, and a frame stands with the place of its first byte, the oldest first.
-use Rattle.std.specs.Prelude.{◌≡◌, ℕ, ◌+◌, List, [], ◌∷◌, ◌++◌, length, drop}
+use Rattle.std.specs.Prelude.{◌≡◌, ◌≢◌, ℕ, ◌+◌, List, [], ◌∷◌, ◌++◌, length, drop}
 use Rattle.wire_base.specs.declared.frame.Frame.{Frame}
 use Rattle.wire_base.specs.declared.frame.Version.{Version}
 use Rattle.wire_base.specs.declared.reason.Reason.{Reason}
@@ -26,6 +26,10 @@ given_with (next.Frame place frame) given = given ++ (place.0, frame) ∷ []
 given_with next.Short given = given
 given_with (next.Refused place reason) given = given
 given_with next.OutOfMemory given = given
+
+-- no whole frame stands at the front
+abbrev pub HasNone : Version → List ℕ → Type 0
+HasNone v bytes = (frame : Frame) (size : ℕ) → front v bytes ≢ Whole frame size
 
 -- the stream breaks a rule after these frames, by the token at this place
 pub record BreaksAfter (v : Version) (start : ℕ) (stream : List ℕ) (given : List (ℕ × Frame)) (place : ℕ) (reason : Reason) : Type 0 where

@@ -1,11 +1,12 @@
 //! A reader of frames from a stream that comes in pieces.
 
-ghost use Rattle.frame_reader.specs.Answers.{Answers};
+ghost use Rattle.frame_reader.specs.Answers.{Answers, RefusesAt};
 ghost use Rattle.frame_reader.specs.Reads.{Follows, Reads, given_with};
 ghost use Rattle.frame_reader.specs.Unread.{with_piece, without_front};
-ghost use Rattle.frame_text.specs.Reading.{front};
-ghost use Rattle.std.specs.Prelude.{◌≡◌, ◌+◌, ◌≤◌, ◌^◌, ◌++◌, ℕ, List, [], length, OnErr, OnOk};
+ghost use Rattle.std.specs.Prelude.{◌≡◌, ◌+◌, ◌<◌, ◌≤◌, ◌^◌, ◌++◌, ◌⊎◌, ℕ, List, [], length, OnErr, OnOk};
 ghost use Rattle.wire_base.specs.declared.frame.Frame.{Frame};
+ghost use Rattle.wire_base.specs.declared.place.Place.{Place};
+ghost use Rattle.wire_base.specs.declared.reason.Reason.{Reason};
 
 use crate::next::Next;
 use frame_text::FrameCodec;
@@ -62,6 +63,8 @@ impl<C: FrameCodec> FrameReader<C> {
         ensures err { OnErr result (self.new ≡ self.old) }
         ensures reads { (start : ℕ) (stream : List ℕ) (given : List (ℕ × Frame)) → Reads self.old start stream given →
             OnOk result (Reads self.new start (stream ++ piece.now) given) }
+        // What was refused stays so.
+        ensures refuses { (place : Place) (reason : Reason) → RefusesAt self.old place reason → RefusesAt self.new place reason }
     {
         self.bytes.extend_from_slice(piece)?;
         self.fed += piece.len() as u64;
@@ -69,8 +72,13 @@ impl<C: FrameCodec> FrameReader<C> {
     }
 
     /// The next frame of all bytes fed.
+    #[tactic(auto, using(crate::proofs::Streams::answers))]
     pub fn next(&mut self) -> Next
-        ensures answer { Answers result self.old self.new (front self.old.version self.old.rest) }
+        ensures answer { Answers result self.old self.new }
+        ensures refuses { (place : Place) (reason : Reason) → RefusesAt self.old place reason →
+            (result ≡ Next.Refused place reason) ⊎ (result ≡ Next.OutOfMemory) }
+        ensures shorter { (place : Place) (frame : Frame) → result ≡ Next.Frame place frame →
+            length self.new.rest < length self.old.rest }
         // As the whole stream has it, whatever its pieces were.
         ensures follows { (start : ℕ) (stream : List ℕ) (given : List (ℕ × Frame)) → Reads self.old start stream given →
             Follows self.old.version start stream given result }

@@ -1,6 +1,5 @@
 use Rattle.std.proofs.Common.{rules, arith}
 use Rattle.std.proofs.lemmas.Grind.{common_steps}
-use Rattle.frame_text.specs.Reading.{front}
 use Rattle.frame_reader.specs.Answers.{Answers}
 use Rattle.frame_reader.specs.declared.next.Next.TheVariants as next
 use Rattle.frame_reader.proofs.Streams.{reads-answer, answer-follows}
@@ -10,12 +9,12 @@ pub returns-in-Got-clause-follows : goal.returns-in-Got-clause-follows
 returns-in-Got-clause-follows g c = λ start stream given h.
     let old = c.args.self.now in
     let answer = next.Frame c.self.inside.at c.in-Got.frame in
-    let a : Answers answer old c.give.new.self (front old.version old.rest) = (c.in-Got.size, grind (arith, common_steps, c.in-Got.ensures), grind (arith, common_steps), search rules) in
+    let a : Answers answer old c.give.new.self = (c.in-Got.size, grind (arith, common_steps, c.in-Got.ensures), grind (arith, common_steps), search rules) in
     answer-follows answer old c.give.new.self start stream given a h
 
 pub returns-in-Got-clause-reads : goal.returns-in-Got-clause-reads
 returns-in-Got-clause-reads g c = λ start stream given h.
     let old = c.args.self.now in
     let answer = next.Frame c.self.inside.at c.in-Got.frame in
-    let a : Answers answer old c.give.new.self (front old.version old.rest) = (c.in-Got.size, grind (arith, common_steps, c.in-Got.ensures), grind (arith, common_steps), search rules) in
+    let a : Answers answer old c.give.new.self = (c.in-Got.size, grind (arith, common_steps, c.in-Got.ensures), grind (arith, common_steps), search rules) in
     reads-answer answer old c.give.new.self start stream given a h
