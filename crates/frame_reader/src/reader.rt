@@ -63,7 +63,7 @@ impl<C: FrameCodec> FrameReader<C> {
         ensures err { OnErr result (self.new ≡ self.old) }
         ensures reads { (start : ℕ) (stream : List ℕ) (given : List (ℕ × Frame)) → Reads self.old start stream given →
             OnOk result (Reads self.new start (stream ++ piece.now) given) }
-        // What was refused stays so.
+        // What is refused stays so.
         ensures refuses { (place : Place) (reason : Reason) → RefusesAt self.old place reason → RefusesAt self.new place reason }
     {
         self.bytes.extend_from_slice(piece)?;
@@ -79,13 +79,13 @@ impl<C: FrameCodec> FrameReader<C> {
             (result ≡ Next.Refused place reason) ⊎ (result ≡ Next.OutOfMemory) }
         ensures shorter { (place : Place) (frame : Frame) → result ≡ Next.Frame place frame →
             length self.new.rest < length self.old.rest }
-        // As the whole stream has it, whatever its pieces were.
+        // The answer is what the whole stream says, whatever pieces it came in.
         ensures follows { (start : ℕ) (stream : List ℕ) (given : List (ℕ × Frame)) → Reads self.old start stream given →
             Follows self.old.version start stream given result }
         ensures reads { (start : ℕ) (stream : List ℕ) (given : List (ℕ × Frame)) → Reads self.old start stream given →
             Reads self.new start stream (given_with result given) }
     {
-        // A frame that isn't whole yet is looked at again from its first byte. A codec tells that from the heads of its tokens.
+        // A frame that isn't whole is looked at again from its first byte, which costs its heads: a payload is copied once it is whole.
         match self
             .codec
             .decode(self.alloc, &self.bytes[self.given..], self.at)
@@ -129,7 +129,7 @@ impl<C: FrameCodec> FrameReader<C> {
     fn forget_given(&mut self)
         ensures { self.new ≡ self.old }
     {
-        if self.given >= self.bytes.len() - self.given {
+        if self.given >= self.left() {
             self.bytes.drain(..self.given);
             self.given = 0;
         }
