@@ -194,7 +194,7 @@ packed_at-again v f b rest is =
 
 -- ---- the front
 
-front_of-again : (f : Frame) (b rest : List ℕ) (r : Reading Frame) → r ≡ Ok (f, rest) → front_of (length (b ++ rest)) r ≡ Whole f (length b)
+pub front_of-again : (f : Frame) (b rest : List ℕ) (r : Reading Frame) → r ≡ Ok (f, rest) → front_of (length (b ++ rest)) r ≡ Whole f (length b)
 front_of-again f b rest r e =
     let same : length (b ++ rest) - length rest ≡ length b = omega (arith, length-append b rest) in
     rw e (ap (λ n. Whole f n) same)

@@ -38,14 +38,14 @@ pub record Followed {A B : Type 0} (r : Reading A) (next : A → Reader B) (y : 
   pub read : r ≡ Ok (value, rest)
   pub then : next value rest ≡ y
 
-followed : {A B : Type 0} (r : Reading A) (next : A → Reader B) (y : B × List ℕ) → follow r next ≡ Ok y → Followed r next (Ok y)
+pub followed : {A B : Type 0} (r : Reading A) (next : A → Reader B) (y : B × List ℕ) → follow r next ≡ Ok y → Followed r next (Ok y)
 followed (Ok x) next y e = record { value = x.0; rest = x.1; read = refl; then = e }
 followed (Err fault) next y e = absurd cc
 
-abbrev read_as : {A : Type 0} → A → List ℕ → Reading A
+abbrev pub read_as : {A : Type 0} → A → List ℕ → Reading A
 read_as x rest = Ok (x, rest)
 
-pair_is : {A : Type 0} (p q : A × List ℕ) → read_as p.0 p.1 ≡ read_as q.0 q.1 → p ≡ q
+pub pair_is : {A : Type 0} (p q : A × List ℕ) → read_as p.0 p.1 ≡ read_as q.0 q.1 → p ≡ q
 pair_is p q e = cc
 
 value_is : {A : Type 0} (x y : A) (s t : List ℕ) → read_as x s ≡ read_as y t → x ≡ y
@@ -54,7 +54,7 @@ value_is x y s t e = ap (λ p. p.0) (pair_is (x, s) (y, t) e)
 rest_is : {A : Type 0} (x y : A) (s t : List ℕ) → read_as x s ≡ read_as y t → s ≡ t
 rest_is x y s t e = ap (λ p. p.1) (pair_is (x, s) (y, t) e)
 
-some_is : {A : Type 0} (x y : A) → Some x ≡ Some y → x ≡ y
+pub some_is : {A : Type 0} (x y : A) → Some x ≡ Some y → x ≡ y
 some_is x y e = cc
 
 -- ---- tokens
@@ -63,7 +63,7 @@ pub record Allowed {A : Type 0} (o : Option A) (rest : List ℕ) (y : A) (after 
   pub says : o ≡ Some y
   pub after_is : rest ≡ after
 
-allowed-found : {A : Type 0} (left : ℕ) (reason : Reason) (o : Option A) (rest : List ℕ) (y : A) (after : List ℕ) → allowed left reason o rest ≡ Ok (y, after) → Allowed o rest y after
+pub allowed-found : {A : Type 0} (left : ℕ) (reason : Reason) (o : Option A) (rest : List ℕ) (y : A) (after : List ℕ) → allowed left reason o rest ≡ Ok (y, after) → Allowed o rest y after
 allowed-found left reason None rest y after e = absurd cc
 allowed-found left reason (Some x) rest y after e = record { says = ap (λ z. Some z) (value_is x y rest after e); after_is = rest_is x y rest after e }
 
@@ -185,7 +185,7 @@ one_code n k c o d e = elim (tested (n == k)) [
 is_code : (k n : ℕ) (c d : Code) → code_number c ≡ k → n ≡ k → c ≡ d → n ≡ code_number d
 is_code k n c d a b e = b ∙ sym a ∙ ap code_number e
 
-code_of-found : (n : ℕ) (d : Code) → code_of n ≡ Some d → n ≡ code_number d
+pub code_of-found : (n : ℕ) (d : Code) → code_of n ≡ Some d → n ≡ code_number d
 code_of-found n d e = elim (one_code n 0 code.Offer _ d e) [
   | inl p ↦ is_code 0 n code.Offer d refl p.0 p.1
   | inr a ↦ elim (one_code n 1 code.OfferAccepted _ d a) [
@@ -443,10 +443,10 @@ none_of : (s : List ℕ) → length s ≡ 0 → s ≡ []
 none_of [] e = refl
 none_of (b ∷ s) e = absurd (omega (arith, e))
 
-abbrev whole : Payload → Result Payload Fault
+abbrev pub whole : Payload → Result Payload Fault
 whole p = Ok p
 
-whole_is : (p q : Payload) → whole p ≡ whole q → p ≡ q
+pub whole_is : (p q : Payload) → whole p ≡ whole q → p ≡ q
 whole_is p q e = cc
 
 ended-found : (reason : Reason) (r : Reading Payload) (p : Payload) → ended reason r ≡ Ok p → r ≡ Ok (p, [])
@@ -518,7 +518,7 @@ pub record Placed {A : Type 0} (r : Result A Fault) (rest : List ℕ) (x : A) (a
   pub read : r ≡ Ok x
   pub after_is : rest ≡ after
 
-placed-found : (r : Result Payload Fault) (rest : List ℕ) (p : Payload) (after : List ℕ) → placed r rest ≡ Ok (p, after) → Placed r rest p after
+pub placed-found : (r : Result Payload Fault) (rest : List ℕ) (p : Payload) (after : List ℕ) → placed r rest ≡ Ok (p, after) → Placed r rest p after
 placed-found (Ok q) rest p after e = record { read = ap whole (value_is q p rest after e); after_is = rest_is q p rest after e }
 placed-found (Err Ends) rest p after e = absurd cc
 placed-found (Err (Breaks left reason)) rest p after e = absurd cc
@@ -633,7 +633,7 @@ pub record FoundFront (v : Version) (bytes : List ℕ) (f : Frame) (size : ℕ) 
   pub found : FoundFrame v bytes f rest
   pub size_is : size ≡ length found.text
 
-whole_frame : (f g : Frame) (m n : ℕ) → Whole f m ≡ Whole g n → (f ≡ g) × (m ≡ n)
+pub whole_frame : (f g : Frame) (m n : ℕ) → Whole f m ≡ Whole g n → (f ≡ g) × (m ≡ n)
 whole_frame f g m n e = (cc, cc)
 
 front_of-found : (v : Version) (bytes : List ℕ) (r : Reading Frame) (f : Frame) (size : ℕ) → packed_at v bytes ≡ r → front_of (length bytes) r ≡ Whole f size → FoundFront v bytes f size

@@ -4,11 +4,11 @@ pub use Rattle.frame_text.proofs.Steady.{front_stays, broken_stays, front_cut}
 pub use Rattle.frame_text.proofs.Again.{spelled_front}
 pub use Rattle.frame_text.proofs.Found.{front_spelled}
 pub use Rattle.frame_text.proofs.Texts.{front-text, text_is}
-pub use Rattle.frame_text.proofs.Unique.{one_spelling}
 pub use Rattle.frame_text.proofs.Shortest.{front_fits, spelled_fits}
+pub use Rattle.frame_text.proofs.Every.{every_front_spelled, every_spelled_front, every_text_is, every_spelled_fits, every_front_fits, every_front-text, text-shortest, one_spelling}
 
 pub ruleset withins = (front_within, broken_within, front_near, broken_near)
 
 pub ruleset stays = (front_stays, broken_stays, front_cut)
 
-pub ruleset spellings = (spelled_front, front_spelled, front-text, one_spelling)
+pub ruleset spellings = (every_front_spelled, every_spelled_front, every_front-text, text-shortest, one_spelling)

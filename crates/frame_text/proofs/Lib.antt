@@ -5,5 +5,6 @@ pub mod Again
 pub mod Found
 pub mod Texts
 pub mod Shortest
-pub mod Unique
+pub mod Plain
+pub mod Every
 pub mod Laws

@@ -19,16 +19,16 @@ use Rattle.wire_base.specs.declared.frame.Origin.TheVariants as origin
 use Rattle.wire_base.specs.declared.frame.Payload.{Payload}
 use Rattle.wire_base.specs.declared.frame.Payload.TheVariants as payload
 use Rattle.wire_base.specs.declared.frame.Frame.{Frame}
-use Rattle.frame_text.specs.Codec.{is_packed}
-use Rattle.frame_text.specs.Heads.{unsigned_text, str_head, array_head}
-use Rattle.frame_text.specs.Frames.{str_text, payload_text, is_count, fits_code, fits_id, fits_origin, fits_length, fits}
+use Rattle.frame_text.specs.Codec.{is_packed, elements}
+use Rattle.frame_text.specs.Heads.{unsigned_text, str_head, bin_head, array_head}
+use Rattle.frame_text.specs.Frames.{code_number, origin_text, str_text, payload_text, payload_element, is_empty, is_count, text, fits_code, fits_id, fits_origin, fits_length, fits}
 use Rattle.frame_text.specs.Front.{Whole}
 use Rattle.frame_text.specs.Reading.{front}
 use Rattle.frame_text.specs.Spelling.{AreBytes, IsHead, IsNumber, IsOptional, with_optional, IsOffer, Carries, IsSource, IsElement, PackedFrameIs, FrameIs}
 use Rattle.frame_text.proofs.Heads.{head-size}
 use Rattle.frame_text.proofs.Within.{tested}
 use Rattle.frame_text.proofs.Found.{front_spelled}
-use Rattle.frame_text.proofs.Texts.{optional_text, offer-text, accepted-text}
+use Rattle.frame_text.proofs.Texts.{optional_text, offer-text, accepted-text, text_with}
 
 -- ---- bytes
 
@@ -44,7 +44,7 @@ pub bytes_right : (a b : List ℕ) → AreBytes (a ++ b) → AreBytes b
 bytes_right [] b h = h
 bytes_right (x ∷ a) b h = bytes_right a b (λ k. h (suc k))
 
-bytes-take : (n : ℕ) (bytes : List ℕ) → AreBytes bytes → AreBytes (take n bytes)
+pub bytes-take : (n : ℕ) (bytes : List ℕ) → AreBytes bytes → AreBytes (take n bytes)
 bytes-take n bytes h = bytes_left (take n bytes) (drop n bytes) (rw (take-append-drop n bytes) h)
 
 -- ---- how long shortest heads are
@@ -115,10 +115,10 @@ str-below_2 n lt = elim (cases_lt n 0x100) [
 below-1 : (bytes : List ℕ) → AreBytes bytes → from_be_bytes w8 bytes < 0x100
 below-1 bytes h = omega (arith, h 0)
 
-below-2 : (bytes : List ℕ) → AreBytes bytes → from_be_bytes w16 bytes < 0x10000
+pub below-2 : (bytes : List ℕ) → AreBytes bytes → from_be_bytes w16 bytes < 0x10000
 below-2 bytes h = omega (arith, h 0, h 1)
 
-below-4 : (bytes : List ℕ) → AreBytes bytes → from_be_bytes w32 bytes < 0x100000000
+pub below-4 : (bytes : List ℕ) → AreBytes bytes → from_be_bytes w32 bytes < 0x100000000
 below-4 bytes h = omega (arith, h 0, h 1, h 2, h 3)
 
 number-wide : (w : Width) (bytes : List ℕ) → AreBytes bytes → length (unsigned_text (from_be_bytes w bytes)) ≤ byte_len w + 1
@@ -142,7 +142,7 @@ IsSmall (whole_head (token.Whole (negsuc k))) = Unit {0}
 IsSmall (whole_head token.Nil) = Unit {0}
 IsSmall (whole_head (token.Flag v)) = Unit {0}
 IsSmall (whole_head (token.Str m)) = m < 0x20
-IsSmall (whole_head (token.Bin m)) = Unit {0}
+IsSmall (whole_head (token.Bin m)) = ⊥
 IsSmall (whole_head (token.Array m)) = Unit {0}
 IsSmall (whole_head (token.Map m)) = Unit {0}
 IsSmall (unsigned w) = Unit {0}
@@ -397,3 +397,145 @@ spelled_fits version.Three f b p h is = packed-fits version.Three f b h is
 
 pub front_fits : (v : Version) (bytes : List ℕ) (f : Frame) (size : ℕ) → is_packed v ≡ true → AreBytes bytes → front v bytes ≡ Whole f size → fits v f ≡ true
 front_fits v bytes f size p h e = spelled_fits v f (take size bytes) p (bytes-take size bytes h) (front_spelled v bytes f size p e)
+
+-- ---- no frame is shorter
+
+bin-most : (n : ℕ) → length (bin_head n) ≤ 5
+bin-most n = elim (cases_lt n 0x100) [
+  | inl b ↦ rw (lt-ltb n 0x100 b) (omega arith)
+  | inr b ↦ elim (cases_lt n 0x10000) [
+    | inl c ↦ rw (le-ltb n 0x100 b, lt-ltb n 0x10000 c) (omega arith)
+    | inr c ↦ rw (le-ltb n 0x100 b, le-ltb n 0x10000 c) (omega arith)
+  ]
+]
+
+bin-below_1 : (n : ℕ) → n < 0x100 → length (bin_head n) ≤ 2
+bin-below_1 n lt = rw (lt-ltb n 0x100 lt) (omega arith)
+
+bin-below_2 : (n : ℕ) → n < 0x10000 → length (bin_head n) ≤ 3
+bin-below_2 n lt = elim (cases_lt n 0x100) [
+  | inl b ↦ let p = bin-below_1 n b in omega (arith, p)
+  | inr b ↦ rw (le-ltb n 0x100 b, lt-ltb n 0x10000 lt) (omega arith)
+]
+
+bin-least : (n : ℕ) → 2 ≤ length (bin_head n)
+bin-least n = elim (cases_lt n 0x100) [
+  | inl b ↦ rw (lt-ltb n 0x100 b) (omega arith)
+  | inr b ↦ elim (cases_lt n 0x10000) [
+    | inl c ↦ rw (le-ltb n 0x100 b, lt-ltb n 0x10000 c) (omega arith)
+    | inr c ↦ rw (le-ltb n 0x100 b, le-ltb n 0x10000 c) (omega arith)
+  ]
+]
+
+bin-least_2 : (n : ℕ) → 0x100 ≤ n → 3 ≤ length (bin_head n)
+bin-least_2 n b = elim (cases_lt n 0x10000) [
+  | inl c ↦ rw (le-ltb n 0x100 b, lt-ltb n 0x10000 c) (omega arith)
+  | inr c ↦ rw (le-ltb n 0x100 b, le-ltb n 0x10000 c) (omega arith)
+]
+
+bin-least_4 : (n : ℕ) → 0x10000 ≤ n → 5 ≤ length (bin_head n)
+bin-least_4 n c = let b : 0x100 ≤ n = omega arith in rw (le-ltb n 0x100 b, le-ltb n 0x10000 c) (omega arith)
+
+-- fewer bytes have no longer head
+bin-grows : (m n : ℕ) → m ≤ n → length (bin_head m) ≤ length (bin_head n)
+bin-grows m n le = elim (cases_lt n 0x100) [
+  | inl b ↦ omega (arith, bin-below_1 m (omega arith), bin-least n)
+  | inr b ↦ elim (cases_lt n 0x10000) [
+    | inl c ↦ omega (arith, bin-below_2 m (omega arith), bin-least_2 n b)
+    | inr c ↦ omega (arith, bin-most m, bin-least_4 n c)
+  ]
+]
+
+bin-wide : (w : Width) (bytes : List ℕ) → AreBytes bytes → length (bin_head (from_be_bytes w bytes)) ≤ byte_len w + 1
+bin-wide w8 bytes h = bin-below_1 (from_be_bytes w8 bytes) (below-1 bytes h)
+bin-wide w16 bytes h = bin-below_2 (from_be_bytes w16 bytes) (below-2 bytes h)
+bin-wide w32 bytes h = bin-most (from_be_bytes w32 bytes)
+bin-wide w64 bytes h = let p = bin-most (from_be_bytes w64 bytes) in omega (arith, p)
+bin-wide w128 bytes h = let p = bin-most (from_be_bytes w128 bytes) in omega (arith, p)
+
+bin_same : (v n : ℕ) → token.Bin v ≡ token.Bin n → v ≡ n
+bin_same v n e = cc
+
+bin-kind : (k : Kind) (rest : List ℕ) (n : ℕ) → IsSmall k → AreBytes rest → read_kind k rest ≡ Got (token.Bin n) (length rest + 1) → length (bin_head n) ≤ length rest + 1
+bin-kind (bin w) rest n small h e =
+    let v = from_be_bytes w (take (byte_len w) rest) in
+    let r = numbered-is w (λ x. token.Bin x) rest (token.Bin n) (length rest + 1) e in
+    let is = r.head_is in
+    let same : v ≡ n = bin_same v n is in
+    rw (← same) (omega (arith, r.len_is, bin-wide w (take (byte_len w) rest) (bytes-take (byte_len w) rest h)))
+bin-kind (whole_head (token.Bin m)) rest n small h e = absurd small
+bin-kind (whole_head (token.Whole z)) rest n small h e = absurd cc
+bin-kind (whole_head token.Nil) rest n small h e = absurd cc
+bin-kind (whole_head (token.Flag v)) rest n small h e = absurd cc
+bin-kind (whole_head (token.Str m)) rest n small h e = absurd cc
+bin-kind (whole_head (token.Array m)) rest n small h e = absurd cc
+bin-kind (whole_head (token.Map m)) rest n small h e = absurd cc
+bin-kind (unsigned w) rest n small h e = let r = numbered-is w (λ x. token.Whole (pos x)) rest (token.Bin n) (length rest + 1) e in let is = r.head_is in absurd cc
+bin-kind (signed w) rest n small h e = let r = numbered-is w (λ x. token.Whole (cast_signed w x)) rest (token.Bin n) (length rest + 1) e in let is = r.head_is in absurd cc
+bin-kind (str w) rest n small h e = let r = numbered-is w (λ x. token.Str x) rest (token.Bin n) (length rest + 1) e in let is = r.head_is in absurd cc
+bin-kind (array w) rest n small h e = let r = numbered-is w (λ x. token.Array x) rest (token.Bin n) (length rest + 1) e in let is = r.head_is in absurd cc
+bin-kind (map w) rest n small h e = let r = numbered-is w (λ x. token.Map x) rest (token.Bin n) (length rest + 1) e in let is = r.head_is in absurd cc
+bin-kind (refused q) rest n small h e = absurd cc
+
+bin-shortest : (n : ℕ) (b : List ℕ) → AreBytes b → IsHead (token.Bin n) b → length (bin_head n) ≤ length b
+bin-shortest n [] h e = absurd cc
+bin-shortest n (x ∷ rest) h e =
+    let longer : length (x ∷ rest) ≡ length rest + 1 = omega arith in
+    let p = bin-kind (kind_of x) rest n (kind-small x) (bytes_right (x ∷ []) rest h) (e ∙ ap (λ k. Got (token.Bin n) k) longer) in
+    omega (arith, p)
+
+-- an element that isn't left out is no shorter than that of fewer bytes
+element-text : (has : Bool) (few bytes b : List ℕ) → IsElement has bytes b → AreBytes b → length few ≤ length bytes → length (payload_element few) ≤ length b
+element-text has [] bytes b is h le = omega arith
+element-text false (x ∷ few) bytes b is h le = absurd (omega (arith, ap length is.0))
+element-text true (x ∷ few) bytes b is h le =
+    let a = bin-shortest (length bytes) is.head (bytes_left is.head bytes (subst AreBytes is.parts h)) is.is_head in
+    let g = bin-grows (length (x ∷ few)) (length bytes) le in
+    let c : length (payload_element (x ∷ few)) ≡ length (bin_head (length (x ∷ few))) + length (x ∷ few) = length-append (bin_head (length (x ∷ few))) (x ∷ few) in
+    let d : length b ≡ length is.head + length bytes = ap length is.parts ∙ length-append is.head bytes in
+    omega (arith, a, g, c, d, le)
+
+source-text : (v : Version) (o : Origin) (b : List ℕ) → IsSource v o b → length (origin_text o) ≤ length b
+source-text version.One origin.ByParity b is = omega arith
+source-text version.Two origin.ByParity b is = omega arith
+source-text version.Three origin.Sender b is = let p = head-size b (token.Whole (pos 1)) (length b) is in omega (arith, p.some)
+source-text version.Three origin.Receiver b is = let p = head-size b (token.Whole (negsuc 0)) (length b) is in omega (arith, p.some)
+source-text v o b is = absurd is
+
+array-one : (v : Version) (t : Bool) → length (array_head (cond t (elements v) (elements v + 1))) ≡ 1
+array-one version.One true = refl
+array-one version.One false = refl
+array-one version.Two true = refl
+array-one version.Two false = refl
+array-one version.Three true = refl
+array-one version.Three false = refl
+
+text_with-len : (v : Version) (f : Frame) (bytes : List ℕ) → length (text_with v f bytes) ≡ 1 + length (unsigned_text (code_number f.code)) + length (unsigned_text f.id) + length (origin_text f.origin) + length (payload_element bytes)
+text_with-len v f bytes =
+    let a = array_head (cond (is_empty bytes) (elements v) (elements v + 1)) in
+    let c = unsigned_text (code_number f.code) in
+    let i = unsigned_text f.id in
+    let o = origin_text f.origin in
+    let e = payload_element bytes in
+    length-append (a ++ c ++ i ++ o) e ∙ ap (λ k. k + length e) (length-append (a ++ c ++ i) o ∙ ap (λ k. k + length o) (length-append (a ++ c) i ∙ ap (λ k. k + length i) (length-append a c ∙ ap (λ k. k + length c) (array-one v (is_empty bytes)))))
+
+packed-shortest : (v : Version) (f : Frame) (b : List ℕ) → AreBytes b → PackedFrameIs v f b → length (text_with v f (payload_text f.payload)) ≤ length b
+packed-shortest v f b h is =
+    let parts = frame-bytes v f b is h in
+    let short = carries-shortest f.code f.payload is.bytes parts.bytes is.carries in
+    let a = head-size is.array (token.Array (cond is.has_payload (elements v + 1) (elements v))) (length is.array) is.is_array in
+    let c = number-shortest (code_number f.code) is.first parts.first is.is_code in
+    let i = number-shortest f.id is.second parts.second is.is_id in
+    let o = source-text v f.origin is.third is.is_source in
+    let e = element-text is.has_payload (payload_text f.payload) is.bytes is.last is.is_payload parts.last short in
+    let len : length b ≡ length is.array + (length is.first + (length is.second + (length is.third + length is.last))) =
+    ap length is.parts
+    ∙ length-append is.array (is.first ++ (is.second ++ (is.third ++ is.last)))
+    ∙ ap (λ k. length is.array + k) (length-append is.first (is.second ++ (is.third ++ is.last))
+    ∙ ap (λ k. length is.first + k) (length-append is.second (is.third ++ is.last) ∙ ap (λ k. length is.second + k) (length-append is.third is.last))) in
+    omega (arith, a.some, c, i, o, e, len, text_with-len v f (payload_text f.payload))
+
+pub packed_text-shortest : (v : Version) (f : Frame) (b : List ℕ) → is_packed v ≡ true → AreBytes b → FrameIs v f b → length (text v f) ≤ length b
+packed_text-shortest version.One f b p h is = absurd cc
+packed_text-shortest version.Two f b p h is = packed-shortest version.Two f b h is
+packed_text-shortest version.Three f b p h is = packed-shortest version.Three f b h is

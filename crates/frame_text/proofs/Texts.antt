@@ -196,7 +196,7 @@ is_array-text version.Three false = refl
 is_array-text version.Three true = refl
 
 -- the text of a frame with these bytes as its payload
-abbrev text_with : Version → Frame → List ℕ → List ℕ
+abbrev pub text_with : Version → Frame → List ℕ → List ℕ
 text_with v f bytes =
     array_head (cond (is_empty bytes) (elements v) (elements v + 1))
     ++ unsigned_text (code_number f.code) ++ unsigned_text f.id ++ origin_text f.origin ++ payload_element bytes

@@ -37,20 +37,22 @@ pub fn front_is_steady()
 /// What is read is what is spelled, and the text is a spelling.
 #[tactic(auto, using(crate::proofs::Laws::spellings))]
 pub fn front_is_spelled()
-    ensures front_spelled { (v : Version) (bytes : List ℕ) (f : Frame) (size : ℕ) → is_packed v ≡ true →
+    ensures front_spelled { (v : Version) (bytes : List ℕ) (f : Frame) (size : ℕ) →
         front v bytes ≡ Whole f size → FrameIs v f (take size bytes) }
-    ensures spelled_front { (v : Version) (f : Frame) (b rest : List ℕ) → is_packed v ≡ true →
+    ensures spelled_front { (v : Version) (f : Frame) (b rest : List ℕ) →
         FrameIs v f b → front v (b ++ rest) ≡ Whole f (length b) }
-    ensures front_text { (v : Version) (f : Frame) (rest : List ℕ) → is_packed v ≡ true → fits v f ≡ true →
+    ensures front_text { (v : Version) (f : Frame) (rest : List ℕ) → fits v f ≡ true →
         front v (text v f ++ rest) ≡ Whole f (length (text v f)) }
+    ensures shortest { (v : Version) (f : Frame) (b : List ℕ) → AreBytes b →
+        FrameIs v f b → length (text v f) ≤ length b }
     // A spelling that begins another is that one, of the same frame.
-    ensures one_spelling { (v : Version) (f g : Frame) (b more : List ℕ) → is_packed v ≡ true →
+    ensures one_spelling { (v : Version) (f g : Frame) (b more : List ℕ) →
         FrameIs v f b → FrameIs v g (b ++ more) → (f ≡ g) × (more ≡ []) }
 {}
 
 /// What is read of bytes fits.
-#[tactic(auto, using(crate::proofs::Laws::front_fits))]
+#[tactic(auto, using(crate::proofs::Laws::every_front_fits))]
 pub fn front_has_text()
-    ensures { (v : Version) (bytes : List ℕ) (f : Frame) (size : ℕ) → is_packed v ≡ true → AreBytes bytes →
+    ensures { (v : Version) (bytes : List ℕ) (f : Frame) (size : ℕ) → AreBytes bytes →
         front v bytes ≡ Whole f size → fits v f ≡ true }
 {}

@@ -2,7 +2,7 @@
 use Rattle.std.proofs.Common.{◌≡◌, ℕ, ◌<◌, ◌≤◌, List, [], ◌∷◌, ◌++◌, length, take, drop, map, refl, sym, ◌∙◌, ap, arith, length-drop, append_assoc, zero, suc}
 use Rattle.wire_base.specs.declared.frame.Version.{Version}
 use Rattle.mux_items.specs.declared.channel.ChannelKey.{ChannelKey}
-use Rattle.mux_items.specs.Bodies.{ChannelFrame, Content, frame_on, frame_text, frame_texts}
+use Rattle.mux_items.specs.Bodies.{Content, frame_on, frame_text, frame_texts}
 use Rattle.mux_items.specs.Due.{piece_size, pieces_in, pieces, content_frames}
 
 -- more turns than bytes change nothing

@@ -7,7 +7,7 @@ use Rattle.wire_base.specs.declared.frame.Version.{Version}
 use Rattle.mux_items.specs.declared.channel.ChannelKey.{ChannelKey}
 use Rattle.mux_items.specs.declared.party.Party.TheVariants.{Neither}
 use Rattle.mux_items.specs.Bodies.{Offer, OfferAccepted, Content, ContentWritingCompleted, ChannelTerminated, ContentProcessed, same_key, same_bool, window_of}
-use Rattle.mux_items.specs.Items.{Item, Hello, DidOffer, DidAccept, DidRead, DidComplete, DidTerminate, Got, Rejected, End, ended, is_running, greeting, party_of}
+use Rattle.mux_items.specs.Items.{Item, Hello, DidOffer, DidAccept, DidRead, DidComplete, DidTerminate, Got, Rejected, End, is_running, greeting, party_of}
 use Rattle.mux_items.specs.Lists.{written, window, is_offered, is_rejected, has_completed, has_terminated, is_terminated_by_peer, is_cut, before_cut, is_accepted_in, granted_in, is_completed_in, within_grant, emitted_in, emitted, completion_emitted, is_finished, termination_emitted, heeds, taken, is_accepted, is_completed, acknowledged, granted, is_dropped, handed, unread, is_closed}
 use Rattle.mux_items.specs.Kept.{keys, is_known, has_bytes, is_kept, kept_keys, own_windows}
 use Rattle.mux_end.specs.Stands.{is_built_item}

@@ -1,5 +1,5 @@
 -- The numbers of a frame that was read are in their ranges.
-use Rattle.std.proofs.Common.{◌≡◌, ℕ, ◌+◌, ◌<◌, ◌≤◌, Bool, true, false, cond, List, length, Option, Some, None, Result, Ok, Err, refl, arith, subst}
+use Rattle.std.proofs.Common.{◌≡◌, ℕ, ◌<◌, ◌≤◌, Bool, true, false, cond, List, length, Option, Some, None, Result, Ok, Err, refl, arith, subst}
 use Rattle.std.specs.Prelude.{◌==◌, ◌&&◌, nat_lt, ℤ, pos, negsuc, IfSome}
 use Rattle.std.proofs.lemmas.Bool.{ltb-true, and_parts}
 use Rattle.wire_base.specs.declared.frame.Version.{Version}
@@ -16,7 +16,7 @@ use Rattle.frame_text.specs.declared.fault.Fault.{Fault}
 use Rattle.frame_text.specs.declared.fault.Fault.TheVariants.{Ends, Breaks}
 use Rattle.frame_text.specs.Codec.{is_packed, elements}
 use Rattle.frame_text.specs.Front.{Front, Whole, Short, Broken}
-use Rattle.frame_text.specs.Reading.{Reading, Reader, follow, ◌>>=◌, done, Sort, a_number, an_array, allowed, head_at, token_at, inside, inner_at, code_in, id_in, count_in, last_in, only, name_at, optional_at, offer_at, accepted_at, processed_at, spoiled, ended, carried, placed, payload_at, content_at, origin_at, packed_at, frame_at, front_of, front}
+use Rattle.frame_text.specs.Reading.{Reading, Reader, follow, ◌>>=◌, done, Sort, a_number, an_array, allowed, head_at, token_at, inside, inner_at, code_in, id_in, count_in, last_in, only, name_at, optional_at, offer_at, accepted_at, processed_at, spoiled, ended, carried, placed, payload_at, content_at, origin_at, packed_at, front_of, front}
 use Rattle.frame_text.proofs.Within.{IsRun, payload_at-is}
 use Rattle.mux_end.specs.Ranges.{IsCounted, IsInRange}
 

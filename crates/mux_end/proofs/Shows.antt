@@ -11,7 +11,7 @@ use Rattle.mux_items.specs.declared.channel.Phase.TheVariants as phase
 use Rattle.mux_items.specs.declared.channel.Tally.{Tally}
 use Rattle.mux_items.specs.Bodies.{ChannelTerminated}
 use Rattle.mux_items.specs.Items.{Item, DidTerminate, Got, End, ended, is_running}
-use Rattle.mux_items.specs.Lists.{written, emitted, taken, handed, granted, is_cut, is_accepted, is_terminated_by_peer, phase_of, unread}
+use Rattle.mux_items.specs.Lists.{written, emitted, taken, handed, granted, is_cut, is_accepted, is_terminated_by_peer, phase_of}
 use Rattle.mux_items.specs.Kept.{keys, is_kept}
 use Rattle.mux_items.specs.Views.{pending_count, view_of, tally_of, by_id, known_keys}
 use Rattle.mux_end.specs.Lane.{lane_of, channel_of}

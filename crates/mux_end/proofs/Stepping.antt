@@ -1,5 +1,5 @@
 -- What a step answers.
-use Rattle.std.proofs.Common.{◌≡◌, ◌<◌, ◌≤◌, ℕ, ◌+◌, List, [], ◌∷◌, ◌++◌, length, drop, Bool, true, false, Option, Some, None, refl, sym, ◌∙◌, ap, subst, arith, length-drop}
+use Rattle.std.proofs.Common.{◌≡◌, ◌<◌, ◌≤◌, ℕ, ◌+◌, List, length, drop, Bool, false, Option, Some, None, refl, sym, ◌∙◌, ap, subst, arith, length-drop}
 use Rattle.std.specs.Prelude.{if◌then◌else◌}
 use Rattle.wire_base.specs.declared.frame.Version.TheVariants as version
 use Rattle.wire_base.specs.declared.frame.Frame.{Frame}
@@ -11,19 +11,17 @@ use Rattle.frame_text.specs.Reading.{front}
 use Rattle.frame_text.proofs.Within.{front_within}
 use Rattle.mux_items.specs.declared.channel.ChannelKey.{ChannelKey}
 use Rattle.mux_items.specs.declared.channel.MuxEvent.{MuxEvent}
-use Rattle.mux_items.specs.declared.channel.MuxEvent.TheVariants as event
 use Rattle.mux_items.specs.declared.party.Party.TheVariants.{Neither}
 use Rattle.mux_items.specs.Bodies.{FrameBody, Offer, OfferAccepted, Content, ContentWritingCompleted, ChannelTerminated, ContentProcessed, ChannelFrame, taken_frame}
-use Rattle.mux_items.specs.Items.{Item, Got, End, ended, party_of}
-use Rattle.mux_items.specs.Lists.{termination_emitted}
+use Rattle.mux_items.specs.Items.{Item, Got, End, ended}
 use Rattle.mux_items.specs.Applying.{heeded_event, frame_event}
 use Rattle.mux_end.specs.declared.step.MuxStep.{MuxStep}
 use Rattle.mux_end.specs.declared.step.MuxStep.TheVariants as step
 use Rattle.mux_end.specs.Lane.{Lane}
 use Rattle.mux_end.specs.Stands.{EndValue, MuxStands}
-use Rattle.mux_end.specs.Replies.{Adds, built_refusal, next_by, next_taken, next_from, next_of, refused_at, StepAnswers}
+use Rattle.mux_end.specs.Replies.{Adds, next_by, next_taken, next_from, next_of, refused_at, StepAnswers}
 use Rattle.mux_end.specs.Tests.{lane_frame_refusal}
-use Rattle.mux_end.specs.Ends.{by_lane, end_after, end_refusal, with_applied, with_state, AppliesFrame, AppliesFront}
+use Rattle.mux_end.specs.Ends.{by_lane, end_after, end_refusal, with_state, AppliesFrame, AppliesFront}
 use Rattle.mux_end.proofs.Plain.{party_of-built, termination_emitted-built}
 use Rattle.mux_end.proofs.Steps.{refuses_frame, adds_taken, adds_applied, adds_ended, running_of, ended_none}
 
@@ -60,10 +58,11 @@ event_is old items at rest key (ContentProcessed count) s ok = unless_emitted _ 
 module _ (old new : EndValue) (items : List Item) (at : ℕ) (rest : List ℕ) (s : MuxStands old items at rest) (three : old.version ≡ version.Three) (run : old.state ≡ state.Running) where
   event_of_frame : (f : ChannelFrame) (size : ℕ) (e : MuxEvent) → lane_frame_refusal old.channel f.key f.body ≡ None → AppliesFrame old new f size None (step.Event e)
       → (e ≡ frame_event old.version f.key f.body items) × Adds old new items (at + size) (drop size rest) (Got at f.key f.body)
-  event_of_frame f size e ok h =
-      (h.0 ∙ event_is old items at rest f.key f.body s ok,
-       subst (λ n. Adds old n items (at + size) (drop size rest) (Got at f.key f.body)) (sym h.1)
-         (adds_applied old (end_after f.key f.body old) items at rest (Got at f.key f.body) size (adds_taken old items at rest at f.key f.body s three run ok)))
+  event_of_frame f size e ok h = (
+    h.0 ∙ event_is old items at rest f.key f.body s ok,
+    subst (λ n. Adds old n items (at + size) (drop size rest) (Got at f.key f.body)) (sym h.1)
+        (adds_applied old (end_after f.key f.body old) items at rest (Got at f.key f.body) size (adds_taken old items at rest at f.key f.body s three run ok)),
+  )
 
   end_at : (place : ℕ) (r : Reason) (c : Cause) → c ≡ refused_at place r → new ≡ with_state (state.Ended c) old → (c ≡ refused_at place r) × Adds old new items at rest (End c)
   end_at place r c is left = (is, subst (λ n. Adds old n items at rest (End c)) (sym left) (adds_ended old items at rest c s three run))
@@ -121,7 +120,7 @@ module _ (old new : EndValue) (items : List Item) (at : ℕ) (rest : List ℕ) (
   pub step_answers : (result : MuxStep) → AppliesFront old new (front old.version old.rest) result → StepAnswers old new items at rest (ended items) (next_of old.version items at rest) result
   step_answers result h =
       subst (λ e. StepAnswers old new items at rest e (next_of old.version items at rest) result) (sym (ended_none (ended items) (running_of old items at rest s run)))
-        (subst (λ bytes. StepAnswers old new items at rest None (next_from old.version items at (front old.version bytes)) result) s.rest_is (by_front (front old.version old.rest) result h))
+      (subst (λ bytes. StepAnswers old new items at rest None (next_from old.version items at (front old.version bytes)) result) s.rest_is (by_front (front old.version old.rest) result h))
 
 -- an event takes bytes, and leaves the state
 pub record Passes (old new : EndValue) : Type 0 where

@@ -1,5 +1,5 @@
 -- The numbers of a frame of version 2 or 3.
-use Rattle.std.specs.Prelude.{◌<◌, ◌≤◌, ℕ, length, Option, IfSome}
+use Rattle.std.specs.Prelude.{◌<◌, ◌≤◌, length, IfSome}
 use Rattle.wire_base.specs.declared.frame.Payload.{Payload}
 use Rattle.wire_base.specs.declared.frame.Payload.TheVariants as payload
 use Rattle.wire_base.specs.declared.frame.Frame.{Frame}

@@ -1,5 +1,5 @@
 -- What calls and steps of an end answer, and what they leave.
-use Rattle.std.specs.Prelude.{◌≡◌, ◌<◌, ◌≤◌, ℕ, ◌+◌, List, [], ◌∷◌, ◌++◌, length, drop, take, Bool, true, false, nat_lt, if◌then◌else◌, Option, Some, None, Result, Ok, Err}
+use Rattle.std.specs.Prelude.{◌≡◌, ℕ, ◌+◌, List, ◌∷◌, ◌++◌, length, drop, Bool, true, false, nat_lt, Option, Some, None, Result, Ok, Err}
 use Rattle.wire_base.specs.declared.frame.Version.{Version}
 use Rattle.wire_base.specs.declared.reason.Reason.{Reason}
 use Rattle.wire_base.specs.declared.reason.Reason.TheVariants as reason
@@ -13,8 +13,7 @@ use Rattle.frame_text.specs.Reading.{front}
 use Rattle.wire_base.specs.declared.state.EndState.{EndState}
 use Rattle.wire_base.specs.declared.state.EndState.TheVariants as state
 use Rattle.mux_items.specs.declared.channel.ChannelKey.{ChannelKey}
-use Rattle.mux_items.specs.declared.channel.MuxEvent.{MuxEvent}
-use Rattle.mux_items.specs.Bodies.{FrameBody, Offer, OfferAccepted, Content, ContentWritingCompleted, ChannelTerminated, ContentProcessed, ChannelFrame, frame_texts, taken_frame}
+use Rattle.mux_items.specs.Bodies.{FrameBody, Offer, ContentWritingCompleted, ChannelTerminated, ChannelFrame, frame_texts, taken_frame}
 use Rattle.mux_items.specs.Items.{Item, Got, End, party_of}
 use Rattle.mux_items.specs.Kept.{keys}
 use Rattle.mux_items.specs.Due.{due}
@@ -24,7 +23,7 @@ use Rattle.wire_base.specs.declared.fault.CallFault.{CallFault}
 use Rattle.wire_base.specs.declared.fault.CallFault.TheVariants as fault
 use Rattle.mux_end.specs.declared.step.MuxStep.{MuxStep}
 use Rattle.mux_end.specs.declared.step.MuxStep.TheVariants as step
-use Rattle.mux_end.specs.Stands.{EndValue, MuxStands, state_of}
+use Rattle.mux_end.specs.Stands.{EndValue, MuxStands}
 
 -- an end goes from old, which stood for the items, to new, which stands for one more
 pub record Adds (old new : EndValue) (items : List Item) (at : ℕ) (rest : List ℕ) (item : Item) : Type 0 where

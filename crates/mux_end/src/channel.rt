@@ -333,13 +333,24 @@ impl Channel {
     }
 
     /// Writes what may be emitted at the end of the output.
-    pub fn emit(&mut self, alloc: Global, version: Version, out: &mut Vec<u8>) -> Result<(), OutOfMemory>
+    pub fn emit(
+        &mut self,
+        alloc: Global,
+        version: Version,
+        out: &mut Vec<u8>,
+    ) -> Result<(), OutOfMemory>
         requires { is_packed version ≡ true }
         ensures lane { OnOk result (self.new ≡ with_emitted self.old) }
         ensures output { OnOk result (out.new.items ≡ out.old.items ++ frame_texts version (content_frames self.old.key (sendable_bytes self.old))) }
     {
         let sendable = self.sendable();
-        push_content(alloc, version, self.key, &self.written[self.emitted..sendable], out)?;
+        push_content(
+            alloc,
+            version,
+            self.key,
+            &self.written[self.emitted..sendable],
+            out,
+        )?;
         self.emitted = sendable;
         Ok(())
     }

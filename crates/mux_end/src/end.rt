@@ -2,20 +2,20 @@
 
 ghost use Rattle.frame_text.specs.Reading.{front};
 ghost use Rattle.mux_end.specs.Ends.{AppliesFrame, AppliesFront, IsStarted, KeepsTerms, accepted_end, bytes_read, count_read, emits, end_after, end_refusal, offered_end, on_channel, read_end, with_applied, with_lane, with_output, with_rest, with_state, written_end};
-ghost use Rattle.mux_end.specs.Lane.{Lane, answered_lane, credited_lane, heard_lane, taken_lane};
+ghost use Rattle.mux_end.specs.Lane.{answered_lane, credited_lane, heard_lane, taken_lane};
 ghost use Rattle.mux_end.specs.Ranges.{IsInRange};
 ghost use Rattle.mux_end.specs.Replies.{CallAnswers, FeedAnswers, RefusesStopped, StepAnswers, StepsStopped, is_spent, next_of};
-ghost use Rattle.mux_end.specs.Stands.{EndValue, MuxStands};
-ghost use Rattle.mux_end.specs.Tests.{is_running_state, lane_accept_refusal, lane_frame_refusal, lane_offer_refusal, lane_read_refusal, lane_write_refusal, offer_tests, on_lane, peer_offer_tests, unless_over, unless_stopped};
+ghost use Rattle.mux_end.specs.Stands.{MuxStands};
+ghost use Rattle.mux_end.specs.Tests.{is_running_state, lane_accept_refusal, lane_frame_refusal, lane_read_refusal, lane_write_refusal, offer_tests, peer_offer_tests, unless_over, unless_stopped};
 ghost use Rattle.mux_items.specs.Applying.{heeded_event};
-ghost use Rattle.mux_items.specs.Bodies.{body_of, key_of, same_key, taken_frame};
+ghost use Rattle.mux_items.specs.Bodies.{body_of, key_of, taken_frame};
 ghost use Rattle.mux_items.specs.Items.{DidAccept, DidOffer, DidRead, DidWrite, Item, ended};
 ghost use Rattle.mux_items.specs.Kept.{next_key};
 ghost use Rattle.mux_items.specs.Lists.{unread};
 ghost use Rattle.mux_items.specs.Refusals.{accept_refusal, most_bytes, offer_refusal, read_refusal, write_refusal};
 ghost use Rattle.mux_items.specs.Views.{known_keys, tally_of, view_of};
 ghost use Rattle.mux_items.specs.declared.party.Party.TheVariants.{Neither};
-ghost use Rattle.std.specs.Prelude.{◌≡◌, ◌≤◌, ◌<◌, ◌+◌, ◌-◌, ◌++◌, List, [], ℕ, drop, length, min, nat_lt, slice_get, take, true, false, IfOk, OnOk, IfSome, Option};
+ghost use Rattle.std.specs.Prelude.{◌≡◌, ◌≤◌, ◌<◌, ◌+◌, ◌++◌, List, [], ℕ, drop, length, min, nat_lt, slice_get, take, true, false, IfOk, OnOk, IfSome};
 ghost use Rattle.wire_base.specs.declared.refusal.Refusal.{Refusal};
 
 use crate::channel::{Channel, is_bad_window};
@@ -24,7 +24,10 @@ use crate::step::MuxStep;
 use mux_items::{ChannelKey, ChannelView, MuxEvent, Tally};
 use std::alloc::Global;
 use std::marker::Model;
-use wire_base::{CallFault, Cause, EndState, Frame, FrameStep, Origin, OutOfMemory, Payload, Place, Reason, Refusal, Text, Version};
+use wire_base::{
+    CallFault, Cause, EndState, Frame, FrameStep, Origin, OutOfMemory, Payload, Place, Reason,
+    Refusal, Text, Version,
+};
 
 /// The most bytes of a channel's name.
 const LONGEST_NAME: usize = 1024;
@@ -176,7 +179,12 @@ impl MuxEnd {
     }
 
     /// Moves at most `max` unread bytes of a channel to the end of `out`, and answers their number.
-    pub fn read(&mut self, key: ChannelKey, max: usize, out: &mut Vec<u8>) -> Result<usize, CallFault>
+    pub fn read(
+        &mut self,
+        key: ChannelKey,
+        max: usize,
+        out: &mut Vec<u8>,
+    ) -> Result<usize, CallFault>
         ensures answers { (items : List Item) (at : ℕ) (rest : List ℕ) → MuxStands self.old items at rest →
             CallAnswers self.old self.new items at rest (read_refusal self.old.version key items)
             (DidRead key max) (λ n. n ≡ min max (length (unread self.old.version key items))) result }
@@ -336,7 +344,12 @@ impl MuxEnd {
         Ok(())
     }
 
-    fn offer_channel(&mut self, key: ChannelKey, name: &Text, window: u32) -> Result<(), OutOfMemory>
+    fn offer_channel(
+        &mut self,
+        key: ChannelKey,
+        name: &Text,
+        window: u32,
+    ) -> Result<(), OutOfMemory>
         requires id_above { 0 < key.id }
         requires id_below { key.id < 0x8000000000000000 }
         requires own { key.own ≡ true }
@@ -345,7 +358,14 @@ impl MuxEnd {
         ensures end { OnOk result (self.new ≡ offered_end key name.now window self.old) }
         ensures terms { KeepsTerms self.old self.new }
     {
-        push_offer(self.alloc, self.version, key, name, window, &mut self.output)?;
+        push_offer(
+            self.alloc,
+            self.version,
+            key,
+            name,
+            window,
+            &mut self.output,
+        )?;
         self.channel = Some(Channel::offered(self.alloc, key, window));
         Ok(())
     }

@@ -6,7 +6,7 @@ ghost use Rattle.frame_text.specs.Reading.{front};
 ghost use Rattle.mux_end.specs.Ranges.{IsStepInRange};
 ghost use Rattle.mux_items.specs.Bodies.{Content, ContentProcessed, Offer, OfferAccepted, frame_on, frame_text, frame_texts, origin_of};
 ghost use Rattle.mux_items.specs.Due.{content_frames};
-ghost use Rattle.std.specs.Prelude.{◌≡◌, ◌≤◌, ◌<◌, ◌++◌, ◌^◌, length, true, OnOk, IfOk, Some};
+ghost use Rattle.std.specs.Prelude.{◌≡◌, ◌≤◌, ◌<◌, ◌++◌, ◌^◌, length, true, OnOk, Some};
 
 use frame_pack::PackCodec;
 use frame_text::FrameCodec;
@@ -97,7 +97,11 @@ pub fn push_accepted(
     ensures { OnOk result (out.new.items ≡ out.old.items ++ frame_text version (frame_on key (OfferAccepted (Some window)))) }
 {
     let payload = Payload::Accepted(Some(u64::from(window)));
-    push_frame(version, &frame(version, key, Code::OfferAccepted, payload), out)
+    push_frame(
+        version,
+        &frame(version, key, Code::OfferAccepted, payload),
+        out,
+    )
 }
 
 /// Writes an acknowledgement at the end of the output.
@@ -115,7 +119,11 @@ pub fn push_processed(
     ensures { OnOk result (out.new.items ≡ out.old.items ++ frame_text version (frame_on key (ContentProcessed count))) }
 {
     let payload = Payload::Processed(count);
-    push_frame(version, &frame(version, key, Code::ContentProcessed, payload), out)
+    push_frame(
+        version,
+        &frame(version, key, Code::ContentProcessed, payload),
+        out,
+    )
 }
 
 #[tactic(auto, using(crate::proofs::Fits::frames_fit))]

@@ -16,6 +16,7 @@ use Rattle.pack_value.specs.declared.fault.Fault.TheVariants.{Short, Refused}
 use Rattle.pack_value.specs.Reading.{◌>>=◌, Reader, counted, run_at, text_at, key_of, key_at, repeat, pair_at, behind, at_head, value_at, items_at, pairs_at}
 use Rattle.pack_value.specs.Spelling.{IsHead, IsHeaded, SpellsText, Spells, SpellsAll, SpellsPairs, nesting, nestings, pair_nestings, count, pair_count, max_len}
 use Rattle.pack_value.proofs.Levels.{value_at-is}
+use Rattle.pack_value.proofs.Lists.{trees_of-list_of, pairs_of-list_of}
 use Rattle.wire_base.proofs.HeadLemmas.{head_stays}
 
 otherwise : {A : Type 0} (b : Bool) (x y : A) → b ≡ false → cond b x y ≡ y
@@ -25,14 +26,6 @@ otherwise false x y e = refl
 chosen : {A : Type 0} (b : Bool) (x y : A) → b ≡ true → cond b x y ≡ x
 chosen true x y e = refl
 chosen false x y e = absurd cc
-
-pub trees_of-list_of : (ts : Trees) → trees_of (list_of ts) ≡ ts
-trees_of-list_of no_items = refl
-trees_of-list_of (item t ts) = ap (item t) (trees_of-list_of ts)
-
-pub pairs_of-list_of : (ps : Pairs) → pairs_of (pair_list_of ps) ≡ ps
-pairs_of-list_of no_pairs = refl
-pairs_of-list_of (pair k t ps) = ap (pair k t) (pairs_of-list_of ps)
 
 counted_again : {A : Type 0} (left n : ℕ) (r : Result A Fault) → n ≤ max_len → counted left n r ≡ r
 counted_again left n r le = otherwise (ltb max_len n) (Err (Refused TooLong left)) r (le-ltb max_len n le)

@@ -1,12 +1,27 @@
--- Lists of trees, item by item.
+-- Lists of trees, item by item. A crate above names `walks` where it looks into a value or goes over its lists.
 use Rattle.std.proofs.Common.{◌≡◌, ℕ, zero, suc, ◌+◌, ◌≤◌, ◌<◌, max, Bool, true, false, ◌&&◌, leb, List, [], ◌∷◌, ◌++◌, length, get_or, take, refl, sym, ap, ◌∙◌, append_assoc, arith}
 use Rattle.std.proofs.lemmas.List.{append-nil, take_more}
-use Rattle.wire_base.specs.Tree.{Tree, weight, list_size, pair_size, trees_of, pairs_of}
+use Rattle.wire_base.specs.Tree.{Tree, Trees, no_items, item, Pairs, no_pairs, pair, weight, list_size, pair_size, trees_of, pairs_of, list_of, pair_list_of}
+use Rattle.wire_base.proofs.Back.{pair_list_of-pairs_of}
 use Rattle.pack_value.specs.Spelling.{max_len, nesting, nestings, pair_nestings, count, pair_count}
 use Rattle.pack_value.specs.Shortest.{text, shortest, shortest_items, shortest_pairs, lengths_fit, item_lengths_fit, pair_lengths_fit, IsValue, AreValues, ArePairs, IsEntry, entry_fits, shortest_entry}
 
 abbrev pub Entry : Type 0
 Entry = List ℕ × Tree
+
+-- ---- lists and what they were made of
+
+pub list_of-trees_of : (ts : List Tree) → list_of (trees_of ts) ≡ ts
+list_of-trees_of [] = refl
+list_of-trees_of (t ∷ ts) = ap (λ (us : List Tree). t ∷ us) (list_of-trees_of ts)
+
+pub trees_of-list_of : (ts : Trees) → trees_of (list_of ts) ≡ ts
+trees_of-list_of no_items = refl
+trees_of-list_of (item t ts) = ap (item t) (trees_of-list_of ts)
+
+pub pairs_of-list_of : (ps : Pairs) → pairs_of (pair_list_of ps) ≡ ps
+pairs_of-list_of no_pairs = refl
+pairs_of-list_of (pair k t ps) = ap (pair k t) (pairs_of-list_of ps)
 
 -- ---- nesting
 
@@ -161,3 +176,5 @@ pub ruleset nests = (nestings-push, pair_nestings-push, nesting_at, pair_nesting
 pub ruleset fits = (weight_at, pair_weight_at, count-length, pair_count-length, unfit_at, pair_unfit_at, take_more)
 
 pub ruleset puts = (weight_at, pair_weight_at, count-length, pair_count-length, fits_at, pair_fits_at, take_more, append_assoc)
+
+pub ruleset walks = (list_of-trees_of, trees_of-list_of, pair_list_of-pairs_of, pairs_of-list_of, count-length, pair_count-length, weight_at, pair_weight_at, nesting_at, pair_nesting_at, take_more)

@@ -1,5 +1,6 @@
 ghost use Rattle.std.specs.Prelude.{◌≡◌, ◌≤◌, ◌^◌, ◌+◌, ◌++◌, ℕ, List, length};
 ghost use Rattle.wire_base.specs.Tree.{Tree};
+ghost use Rattle.wire_base.specs.View.{tree_of};
 ghost use Rattle.wire_base.specs.Head.{kind_of, lettered};
 ghost use Rattle.wire_base.specs.declared.reason.Reason.{Reason};
 ghost use Rattle.pack_value.specs.Spelling.{IsSpelling};
@@ -8,16 +9,13 @@ ghost use Rattle.pack_value.specs.Answer.{Answers, IfGot, IfRefused, IfShort, Is
 ghost use Rattle.pack_value.specs.Reading.{Gives, cut_head, nested_key, run_at, text_at, key_at, items_at, pairs_at, repeat, pair_at, behind, value_at};
 
 use crate::fault::{DecodeError, Fault};
+use crate::limits::{MAX_LEN, MAX_NESTING};
 use crate::step::Step;
 use std::alloc::Global;
 use wire_base::{
     Blob, Datum, DatumList, HeadStep, Node, PairList, Place, Reason, Text, TextFault, TokenHead,
     head,
 };
-
-const MAX_LEN: u32 = 16_777_216;
-
-const MAX_NESTING: u32 = 127;
 
 fn refused(reason: Reason, left: usize) -> DecodeError
     ensures { result ≡ DecodeError.Fault (Fault.Refused reason left) }
@@ -126,6 +124,12 @@ fn key_of(alloc: Global, depth: u32, bytes: &[u8]) -> Result<(Text, &[u8]), Deco
     }
 }
 
+fn datum(node: Node) -> Datum
+    ensures { result ≡ tree_of node }
+{
+    Datum { node }
+}
+
 #[cycle(decode)]
 fn item_list_of(
     alloc: Global,
@@ -157,37 +161,17 @@ fn behind_head(
     ensures { Gives (λ x. (x.0, x.1.now)) result (behind (items_at depth left) (pairs_at depth left) left token rest.now) }
 {
     match token {
-        TokenHead::Nil => Ok((Datum { node: Node::Nil }, rest)),
-        TokenHead::Flag(flag) => Ok((
-            Datum {
-                node: Node::Flag(flag),
-            },
-            rest,
-        )),
-        TokenHead::Whole(whole) => Ok((
-            Datum {
-                node: Node::Whole(whole),
-            },
-            rest,
-        )),
+        TokenHead::Nil => Ok((datum(Node::Nil), rest)),
+        TokenHead::Flag(flag) => Ok((datum(Node::Flag(flag)), rest)),
+        TokenHead::Whole(whole) => Ok((datum(Node::Whole(whole)), rest)),
         TokenHead::Str(len) => {
             let (text, rest) = text_of(alloc, left, len, rest)?;
-            Ok((
-                Datum {
-                    node: Node::Words(text),
-                },
-                rest,
-            ))
+            Ok((datum(Node::Words(text)), rest))
         }
         TokenHead::Bin(len) => {
             let (front, rest) = run_of(left, len, rest)?;
             let blob = Blob::from_bytes(alloc, front)?;
-            Ok((
-                Datum {
-                    node: Node::Bytes(blob),
-                },
-                rest,
-            ))
+            Ok((datum(Node::Bytes(blob)), rest))
         }
         TokenHead::Array(count) => {
             if depth == 0 {
@@ -197,12 +181,7 @@ fn behind_head(
                 return Err(refused(Reason::TooLong, left));
             }
             let (items, rest) = item_list_of(alloc, depth - 1, count, rest)?;
-            Ok((
-                Datum {
-                    node: Node::Items(items),
-                },
-                rest,
-            ))
+            Ok((datum(Node::Items(items)), rest))
         }
         TokenHead::Map(count) => {
             if depth == 0 {
@@ -212,12 +191,7 @@ fn behind_head(
                 return Err(refused(Reason::TooLong, left));
             }
             let (pairs, rest) = pair_list_of(alloc, depth - 1, count, rest)?;
-            Ok((
-                Datum {
-                    node: Node::Pairs(pairs),
-                },
-                rest,
-            ))
+            Ok((datum(Node::Pairs(pairs)), rest))
         }
     }
 }

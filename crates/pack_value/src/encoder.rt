@@ -5,14 +5,11 @@ ghost use Rattle.pack_value.specs.Spelling.{IsSpelling, max_len, max_nesting, ne
 ghost use Rattle.pack_value.specs.Shortest.{KeepsFront, IsText, IsEntry, entry_fits, shortest_entry, IsValue, AreValues, ArePairs, lengths_fit, item_lengths_fit, pair_lengths_fit, shortest, shortest_items, shortest_pairs, text};
 
 use crate::encode_fault::EncodeFault;
+use crate::limits::{MAX_LEN, MAX_NESTING};
 use wire_base::{
     Datum, DatumList, Node, OutOfMemory, PairList, Text, push_array_head, push_bin_head,
     push_map_head, push_str_head, push_whole,
 };
-
-const MAX_LEN: usize = 16_777_216;
-
-const MAX_NESTING: u32 = 127;
 
 /// Whether arrays and maps nest at most so deep.
 #[cycle(nests)]
@@ -57,7 +54,7 @@ fn text_fits(text: &Text) -> bool
     ensures exact { IsTrue result ↔ (length text.now ≤ max_len) }
     ensures valid { IsTrue result → IsText text.now }
 {
-    text.as_str().len() <= MAX_LEN
+    text.as_str().len() <= MAX_LEN as usize
 }
 
 /// Whether no text, bytes, array or map is too long.
@@ -75,9 +72,9 @@ fn fits(value: &Datum) -> bool
             true
         }
         Node::Words(text) => text_fits(text),
-        Node::Bytes(blob) => blob.as_bytes().len() <= MAX_LEN,
-        Node::Items(items) => items.len() <= MAX_LEN && items_fit(items),
-        Node::Pairs(pairs) => pairs.len() <= MAX_LEN && pairs_fit(pairs),
+        Node::Bytes(blob) => blob.as_bytes().len() <= MAX_LEN as usize,
+        Node::Items(items) => items.len() <= MAX_LEN as usize && items_fit(items),
+        Node::Pairs(pairs) => pairs.len() <= MAX_LEN as usize && pairs_fit(pairs),
     }
 }
 

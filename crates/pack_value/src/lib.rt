@@ -6,6 +6,7 @@ mod encode_fault;
 mod encoder;
 mod fault;
 mod laws;
+mod limits;
 mod step;
 
 pub use decoder::decode;
@@ -15,3 +16,6 @@ pub use laws::{
     fronts_are_known, refusals_stay, shortest_is_read, spelled_fits, spellings_are_apart,
 };
 pub use step::Step;
+
+#[cfg(test)]
+mod tests;

@@ -1,5 +1,5 @@
 -- The text of a whole line.
-use Rattle.std.proofs.Common.{◌≡◌, Bool, true, false, ℕ, List, Ok, Err, refl}
+use Rattle.std.proofs.Common.{◌≡◌, true, false, Ok, Err, refl}
 use Rattle.std.specs.Prelude.{IsUtf8}
 use Rattle.std.specs.Str.{is_utf8}
 use Rattle.std.proofs.lemmas.Str.{IsUtf8-from_is_utf8, is_utf8-from_IsUtf8}

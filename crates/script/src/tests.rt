@@ -31,10 +31,8 @@ fn carried(step: &Step) -> &[u8] {
 /// Whether the steps have these parts and carry these names and bytes.
 fn are(steps: &[Step], want: &[((Side, u64, bool, u64), &[u8])]) -> bool {
     steps.len() == want.len()
-        && steps
-            .iter()
-            .zip(want)
-            .all(|(step, want)| parts(step) == want.0 && carried(step) == want.1)
+        && steps.iter().zip(want).all(|(step, want)| parts(step) == want.0
+            && carried(step) == want.1)
 }
 
 #[test]
@@ -48,7 +46,8 @@ fn reads_a_head_alone(rt: HostRuntime) -> Result<(), Fail> {
 
 #[test]
 fn reads_the_steps_of_a_credit_script(rt: HostRuntime) -> Result<(), Fail> {
-    let bytes = b"script 1\nversion 3\noffer A a 8\ndeliver B all\naccept B A1 4\ndeliver A all\nwrite A A1 68656c6c6f\ndeliver B all\nread B A1 2\ndeliver A all\ndeliver B all\nread B A1 10\n";
+    let bytes =
+        b"script 1\nversion 3\noffer A a 8\ndeliver B all\naccept B A1 4\ndeliver A all\nwrite A A1 68656c6c6f\ndeliver B all\nread B A1 2\ndeliver A all\ndeliver B all\nread B A1 10\n";
     let script = read_script(rt.alloc(), bytes)?;
     let all = u64::MAX;
     let none: &[u8] = &[];
@@ -70,7 +69,8 @@ fn reads_the_steps_of_a_credit_script(rt: HostRuntime) -> Result<(), Fail> {
 
 #[test]
 fn reads_the_forms_of_words(rt: HostRuntime) -> Result<(), Fail> {
-    let bytes = b"script 1\nversion 3\noffer A - 4294967295\nwrite B B0 -\nwrite A B12 00ff\ndeliver A 0\n";
+    let bytes =
+        b"script 1\nversion 3\noffer A - 4294967295\nwrite B B0 -\nwrite A B12 00ff\ndeliver A 0\n";
     let script = read_script(rt.alloc(), bytes)?;
     let none: &[u8] = &[];
     let want = [
@@ -162,7 +162,13 @@ fn refuses_bytes_that_are_no_text(rt: HostRuntime) {
     expect_broken(&rt, alloc, b"script \xff\nversion 3\n", 1, 95);
     expect_broken(&rt, alloc, b"script 1\nversion 3\noffer A \xff 8\n", 3, 95);
     expect_broken(&rt, alloc, b"script 1\nversion 3\nx \xff", 3, 95);
-    expect_broken(&rt, alloc, b"script 1\nversion 3\noffer C a 8\n\xff\n", 3, 92);
+    expect_broken(
+        &rt,
+        alloc,
+        b"script 1\nversion 3\noffer C a 8\n\xff\n",
+        3,
+        92,
+    );
 }
 
 #[test]

@@ -16,5 +16,5 @@ returns-in-Ok-clause-answers c = λ items at rest s.
     let three = c.accept_refusal.ensures.three in
     let none : lane_accept_refusal self.state self.channel c.args.key c.args.window ≡ None = grind (arith, c.in_default.is, c.in_default.not-Some, c.accept_refusal.ensures.refusal) in
     call_done _ _ items at rest _ _ _ _ (refuses_accept self items at rest c.args.key c.args.window s three ∙ none)
-      (subst (λ e. Adds self e items at rest (DidAccept c.args.key c.args.window)) (sym (c.in-Ok.ensures.end)) (adds_accepted self items at rest c.args.key c.args.window s three none))
-      tt
+    (subst (λ e. Adds self e items at rest (DidAccept c.args.key c.args.window)) (sym (c.in-Ok.ensures.end)) (adds_accepted self items at rest c.args.key c.args.window s three none))
+    tt

@@ -17,8 +17,8 @@ returns-in-Ok-clause-answers c = λ items at rest s.
     let three = c.read_refusal.ensures.three in
     let none : lane_read_refusal self.state self.channel c.args.key ≡ None = grind (arith, c.in_default.is, c.in_default.not-Some, c.read_refusal.ensures.refusal) in
     call_done _ _ items at rest _ _ _ _ (refuses_read self items at rest c.args.key s three ∙ none)
-      (subst (λ e. Adds self e items at rest (DidRead c.args.key c.args.max)) (sym c.in-Ok.ensures.end) (adds_read self items at rest c.args.key c.args.max s three none))
-      (c.in-Ok.ensures.count ∙ count_is self items at rest c.args.key c.args.max s three none)
+    (subst (λ e. Adds self e items at rest (DidRead c.args.key c.args.max)) (sym c.in-Ok.ensures.end) (adds_read self items at rest c.args.key c.args.max s three none))
+    (c.in-Ok.ensures.count ∙ count_is self items at rest c.args.key c.args.max s three none)
 
 pub returns-in-Ok-clause-bytes : goal.returns-in-Ok-clause-bytes
 returns-in-Ok-clause-bytes c = λ items at rest s.

@@ -16,5 +16,5 @@ returns-in-Ok-clause-answers c = λ items at rest s.
     let three = c.write_refusal.ensures.three in
     let none : lane_write_refusal self.state self.channel c.args.key c.args.bytes.now ≡ None = grind (arith, c.in_default.is, c.in_default.not-Some, c.write_refusal.ensures.refusal) in
     call_done _ _ items at rest _ _ _ _ (refuses_write self items at rest c.args.key c.args.bytes.now s three ∙ none)
-      (subst (λ e. Adds self e items at rest (DidWrite c.args.key c.args.bytes.now)) (sym (c.in-Ok.ensures.end)) (adds_written self items at rest c.args.key c.args.bytes.now s three none))
-      tt
+    (subst (λ e. Adds self e items at rest (DidWrite c.args.key c.args.bytes.now)) (sym (c.in-Ok.ensures.end)) (adds_written self items at rest c.args.key c.args.bytes.now s three none))
+    tt
