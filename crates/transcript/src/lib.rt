@@ -6,6 +6,8 @@ ghost use Rattle.mux_run.specs.Run.{Terms};
 ghost use Rattle.mux_run.specs.declared.steps.Step.{Step};
 ghost use Rattle.transcript.specs.Report.{report_text};
 
+mod report;
+mod summary;
 mod words;
 
 pub fn placeholder()
