@@ -25,7 +25,7 @@ grows_output : (d : ℕ) (all now left more_left more : List ℕ) → take d all
 grows_output d all now left more_left more was is within grown =
     let front : take d now ≡ take d all = ap (take d) grown ∙ take-append-le d all more within in
     append_cancel_left (take d all) more_left (left ++ more)
-      (ap (λ bs. bs ++ more_left) (sym front) ∙ (is ∙ (grown ∙ (ap (λ bs. bs ++ more) (sym was) ∙ append_assoc (take d all) left more))))
+    (ap (λ bs. bs ++ more_left) (sym front) ∙ (is ∙ (grown ∙ (ap (λ bs. bs ++ more) (sym was) ∙ append_assoc (take d all) left more))))
 
 -- what x emitted in a step is what its output grew by
 pub record EmitsInStep (v : Version) (nonce : List ℕ) (before after : List Item) (old new : EndValue) : Type 0 where
@@ -44,7 +44,7 @@ emits_at w s x y old new was is =
     let more = out-grows w.version w.own grown.newer x.items in
     let now : out w.version w.own (half_after w s x y).items ≡ out w.version w.own x.items ++ more.0 = ap (out w.version w.own) grown.is ∙ more.1 in
     emits_by w.version w.own x.items (half_after w s x y).items more.0 old new now
-      (grows_output y.delivered (out w.version w.own x.items) (out w.version w.own (half_after w s x y).items) old.output new.output more.0 was.output is.output was.bound now)
+    (grows_output y.delivered (out w.version w.own x.items) (out w.version w.own (half_after w s x y).items) old.output new.output more.0 was.output is.output was.bound now)
 
 -- nothing is emitted by a side that the step isn't at
 nothing_new : (v : Version) (nonce : List ℕ) (items : List Item) → newly_out v nonce items items ≡ []
@@ -64,12 +64,12 @@ told_at terms k s w A result old new at is was now =
     record {
       within = e.within;
       text =
-        ap (λ bs. front ++ answer_lines A result ++ emitted_line A bs) (sym e.bytes)
-        ∙ (sym (append-nil (front ++ answer_lines A result ++ emitted_line A (newly_out terms.version terms.nonce_a w.a.items (happens_at terms A s w).a.items)))
-        ∙ (ap (λ bs. front ++ answer_lines A result ++ emitted_line A (newly_out terms.version terms.nonce_a w.a.items (happens_at terms A s w).a.items) ++ emitted_line B bs) (sym (nothing_new terms.version terms.nonce_b w.b.items))
-        ∙ (ap (λ r. front ++ answer_lines A r ++ emitted_line A (newly_out terms.version terms.nonce_a w.a.items (happens_at terms A s w).a.items) ++ emitted_line B (newly_out terms.version terms.nonce_b w.b.items (happens_at terms A s w).b.items)) is
-        ∙ (ap (λ side. front ++ answer_lines side (answer terms s w) ++ emitted_line A (newly_out terms.version terms.nonce_a w.a.items (happens_at terms A s w).a.items) ++ emitted_line B (newly_out terms.version terms.nonce_b w.b.items (happens_at terms A s w).b.items)) at
-        ∙ ap (λ u. front ++ answer_lines (side_of s) (answer terms s w) ++ emitted_line A (newly_out terms.version terms.nonce_a w.a.items u.a.items) ++ emitted_line B (newly_out terms.version terms.nonce_b w.b.items u.b.items)) (sym after)))));
+          ap (λ bs. front ++ answer_lines A result ++ emitted_line A bs) (sym e.bytes)
+          ∙ (sym (append-nil (front ++ answer_lines A result ++ emitted_line A (newly_out terms.version terms.nonce_a w.a.items (happens_at terms A s w).a.items)))
+          ∙ (ap (λ bs. front ++ answer_lines A result ++ emitted_line A (newly_out terms.version terms.nonce_a w.a.items (happens_at terms A s w).a.items) ++ emitted_line B bs) (sym (nothing_new terms.version terms.nonce_b w.b.items))
+          ∙ (ap (λ r. front ++ answer_lines A r ++ emitted_line A (newly_out terms.version terms.nonce_a w.a.items (happens_at terms A s w).a.items) ++ emitted_line B (newly_out terms.version terms.nonce_b w.b.items (happens_at terms A s w).b.items)) is
+          ∙ (ap (λ side. front ++ answer_lines side (answer terms s w) ++ emitted_line A (newly_out terms.version terms.nonce_a w.a.items (happens_at terms A s w).a.items) ++ emitted_line B (newly_out terms.version terms.nonce_b w.b.items (happens_at terms A s w).b.items)) at
+          ∙ ap (λ u. front ++ answer_lines (side_of s) (answer terms s w) ++ emitted_line A (newly_out terms.version terms.nonce_a w.a.items u.a.items) ++ emitted_line B (newly_out terms.version terms.nonce_b w.b.items u.b.items)) (sym after)))));
     }
 told_at terms k s w B result old new at is was now =
     let e = emits_at (ways_b terms) s w.b w.a old.b new.b was.at_b now.at_b in
@@ -78,11 +78,11 @@ told_at terms k s w B result old new at is was now =
     record {
       within = e.within;
       text =
-        ap (λ bs. front ++ answer_lines B result ++ emitted_line B bs) (sym e.bytes)
-        ∙ (ap (λ bs. bs ++ emitted_line B (newly_out terms.version terms.nonce_b w.b.items (happens_at terms B s w).b.items)) (sym (append-nil (front ++ answer_lines B result)) ∙ ap (λ bs. front ++ answer_lines B result ++ emitted_line A bs) (sym (nothing_new terms.version terms.nonce_a w.a.items)))
-        ∙ (ap (λ r. front ++ answer_lines B r ++ emitted_line A (newly_out terms.version terms.nonce_a w.a.items (happens_at terms B s w).a.items) ++ emitted_line B (newly_out terms.version terms.nonce_b w.b.items (happens_at terms B s w).b.items)) is
-        ∙ (ap (λ side. front ++ answer_lines side (answer terms s w) ++ emitted_line A (newly_out terms.version terms.nonce_a w.a.items (happens_at terms B s w).a.items) ++ emitted_line B (newly_out terms.version terms.nonce_b w.b.items (happens_at terms B s w).b.items)) at
-        ∙ ap (λ u. front ++ answer_lines (side_of s) (answer terms s w) ++ emitted_line A (newly_out terms.version terms.nonce_a w.a.items u.a.items) ++ emitted_line B (newly_out terms.version terms.nonce_b w.b.items u.b.items)) (sym after))));
+          ap (λ bs. front ++ answer_lines B result ++ emitted_line B bs) (sym e.bytes)
+          ∙ (ap (λ bs. bs ++ emitted_line B (newly_out terms.version terms.nonce_b w.b.items (happens_at terms B s w).b.items)) (sym (append-nil (front ++ answer_lines B result)) ∙ ap (λ bs. front ++ answer_lines B result ++ emitted_line A bs) (sym (nothing_new terms.version terms.nonce_a w.a.items)))
+          ∙ (ap (λ r. front ++ answer_lines B r ++ emitted_line A (newly_out terms.version terms.nonce_a w.a.items (happens_at terms B s w).a.items) ++ emitted_line B (newly_out terms.version terms.nonce_b w.b.items (happens_at terms B s w).b.items)) is
+          ∙ (ap (λ side. front ++ answer_lines side (answer terms s w) ++ emitted_line A (newly_out terms.version terms.nonce_a w.a.items (happens_at terms B s w).a.items) ++ emitted_line B (newly_out terms.version terms.nonce_b w.b.items (happens_at terms B s w).b.items)) at
+          ∙ ap (λ u. front ++ answer_lines (side_of s) (answer terms s w) ++ emitted_line A (newly_out terms.version terms.nonce_a w.a.items u.a.items) ++ emitted_line B (newly_out terms.version terms.nonce_b w.b.items u.b.items)) (sym after))));
     }
 
 -- the run of one more step
@@ -94,7 +94,7 @@ step_told k s side result old new at was made =
     let w = run old.terms old.steps in
     let stands : WorldStands old.terms new.a new.b (run new.terms new.steps) = subst (λ t. WorldStands t new.a new.b (run new.terms new.steps)) made.terms_are made.stands in
     let now : WorldStands old.terms new.a new.b (happens_at old.terms side s w) =
-        subst (λ u. WorldStands old.terms new.a new.b u) (run_is old new s result made ∙ ap (λ side. happens_at old.terms side s w) (sym at)) stands in
+    subst (λ u. WorldStands old.terms new.a new.b u) (run_is old new s result made ∙ ap (λ side. happens_at old.terms side s w) (sym at)) stands in
     told_at old.terms k s w side result old new at made.reply_is was now
 
 -- a step that didn't want memory was made

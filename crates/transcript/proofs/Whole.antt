@@ -52,13 +52,13 @@ pub report_is : (v : Version) (nonces : List (List ℕ)) (steps : List Step) (ol
 report_is v nonces steps old new all m₁ m₂ m₃ m₄ m₅ m₆ m₇ m₈ r m h₁ h₂ h₃ h₄ h₅ h₆ h₇ h₈ =
     let t = new.terms in
     joined_eight all _ _ _ _ _ _ _ _ m₁ m₂ m₃ m₄ m₅ m₆ m₇ m₈ h₁
-      (h₂ ∙ ap (λ bs. m₁ ++ emitted_line A bs) (hello_a v nonces old r ∙ ap (λ t. hello t.version t.nonce_a) (sym m.terms_are)))
-      (h₃ ∙ ap (λ bs. m₂ ++ emitted_line B bs) (hello_b v nonces old r ∙ ap (λ t. hello t.version t.nonce_b) (sym m.terms_are)))
-      (h₄ ∙ ap (λ t. m₃ ++ steps_lines t 1 start steps) (sym m.terms_are))
-      h₅
-      (h₆ ∙ (ap (λ v. m₅ ++ summary v A (run t new.steps).a.items) m.stands.at_a.version ∙ ap (λ ss. m₅ ++ summary t.version A (run t ss).a.items) m.stored))
-      (h₇ ∙ (ap (λ v. m₆ ++ summary v B (run t new.steps).b.items) m.stands.at_b.version ∙ ap (λ ss. m₆ ++ summary t.version B (run t ss).b.items) m.stored))
-      h₈
+    (h₂ ∙ ap (λ bs. m₁ ++ emitted_line A bs) (hello_a v nonces old r ∙ ap (λ t. hello t.version t.nonce_a) (sym m.terms_are)))
+    (h₃ ∙ ap (λ bs. m₂ ++ emitted_line B bs) (hello_b v nonces old r ∙ ap (λ t. hello t.version t.nonce_b) (sym m.terms_are)))
+    (h₄ ∙ ap (λ t. m₃ ++ steps_lines t 1 start steps) (sym m.terms_are))
+    h₅
+    (h₆ ∙ (ap (λ v. m₅ ++ summary v A (run t new.steps).a.items) m.stands.at_a.version ∙ ap (λ ss. m₅ ++ summary t.version A (run t ss).a.items) m.stored))
+    (h₇ ∙ (ap (λ v. m₆ ++ summary v B (run t new.steps).b.items) m.stands.at_b.version ∙ ap (λ ss. m₆ ++ summary t.version B (run t ss).b.items) m.stored))
+    h₈
 
 -- the summary of an end that is the one of a world
 pub summary_told : (end own : EndValue) (side : Side) (items : List Item) (at : ℕ) (rest told now : List ℕ) → end ≡ own → MuxStands own items at rest

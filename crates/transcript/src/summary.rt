@@ -8,7 +8,10 @@ ghost use Rattle.mux_end.specs.Stands.{MuxStands};
 ghost use Rattle.transcript.specs.Words.{offering_side};
 ghost use Rattle.transcript.specs.Report.{tally_text, channel_line_of, channel_line, keys_of, same_side, shown_state, summary};
 
-use crate::words::{offering_side, push_cause, push_channel, push_decimal, push_line_feed, push_phase, push_side, push_text};
+use crate::words::{
+    offering_side, push_cause, push_channel, push_decimal, push_line_feed, push_phase, push_side,
+    push_text,
+};
 use mux_end::MuxEnd;
 use mux_items::{ChannelKey, Tally};
 use mux_run::Side;
@@ -29,7 +32,12 @@ fn push_tally(out: &mut Vec<u8>, tally: &Tally) -> Result<(), OutOfMemory>
 }
 
 /// Appends the line of a channel, where something is known of it.
-fn push_channel_line(out: &mut Vec<u8>, side: Side, key: ChannelKey, tally: Option<Tally>) -> Result<(), OutOfMemory>
+fn push_channel_line(
+    out: &mut Vec<u8>,
+    side: Side,
+    key: ChannelKey,
+    tally: Option<Tally>,
+) -> Result<(), OutOfMemory>
     ensures { OnOk result (out.new.items ≡ out.old.items ++ channel_line_of side key tally) }
 {
     match tally {
@@ -75,7 +83,13 @@ fn is_same(a: Side, b: Side) -> bool
 }
 
 /// Appends the line of a known channel, where this side offered it.
-fn push_known(out: &mut Vec<u8>, side: Side, offering: Side, end: &MuxEnd, key: ChannelKey) -> Result<(), OutOfMemory>
+fn push_known(
+    out: &mut Vec<u8>,
+    side: Side,
+    offering: Side,
+    end: &MuxEnd,
+    key: ChannelKey,
+) -> Result<(), OutOfMemory>
     ensures { (items : List Item) (at : ℕ) (rest : List ℕ) → MuxStands end.now items at rest →
         OnOk result (out.new.items ≡ out.old.items ++ (if same_side (offering_side side key) offering then channel_line end.now.version side items key else [])) }
 {
@@ -87,7 +101,12 @@ fn push_known(out: &mut Vec<u8>, side: Side, offering: Side, end: &MuxEnd, key: 
 }
 
 /// Appends the lines of the channels that a side offered.
-fn push_channels(out: &mut Vec<u8>, side: Side, offering: Side, end: &MuxEnd) -> Result<(), OutOfMemory>
+fn push_channels(
+    out: &mut Vec<u8>,
+    side: Side,
+    offering: Side,
+    end: &MuxEnd,
+) -> Result<(), OutOfMemory>
     ensures { (items : List Item) (at : ℕ) (rest : List ℕ) → MuxStands end.now items at rest →
         OnOk result (out.new.items ≡ out.old.items ++ flat_map (channel_line end.now.version side items) (keys_of side offering (known_keys items))) }
 {

@@ -4,7 +4,7 @@ use Rattle.mux_run.specs.Run.{run}
 use Rattle.transcript.specs.Report.{step_lines}
 use Rattle.mux_run.proofs.Safety.{run_safe}
 use Rattle.transcript.proofs.Reported.{built_next, stored_next, lines_next, number_fits, all_stored}
-use Rattle.transcript.proofs.report.push_steps.Goals as goal
+use Rattle.transcript.proofs.running.push_steps.Goals as goal
 
 pub overflow_add-number : goal.overflow_add-number
 overflow_add-number c =
@@ -25,7 +25,7 @@ loop-step-preserved c =
       works = made.works;
       stands = made.stands;
       text = lines_next c.args.duo.now.terms c.loop-step.number c.loop-step.duo.steps _ _ c.push_step.new.duo.steps c.in-Some.step _ _ _ c.in-Some.ensures.steps.0 made.steps_are
-        (c.in_ok-push_step.ensures.text ∙ ap (λ t. c.loop-step.out.items ++ step_lines t (c.loop-step.number + 1) c.in-Some.step (run t c.loop-step.duo.steps)) inv.terms) inv.text;
+          (c.in_ok-push_step.ensures.text ∙ ap (λ t. c.loop-step.out.items ++ step_lines t (c.loop-step.number + 1) c.in-Some.step (run t c.loop-step.duo.steps)) inv.terms) inv.text;
     }
 
 pub returns-clause-made : goal.returns-clause-made

@@ -3,7 +3,7 @@ use Rattle.std.specs.Vec.Iter.{into_iter_items}
 use Rattle.mux_run.specs.Run.{run, start}
 use Rattle.duo_world.specs.Holding.{StandsForRun}
 use Rattle.transcript.specs.Report.{steps_lines}
-use Rattle.transcript.proofs.report.push_steps.Given as goal
+use Rattle.transcript.proofs.running.push_steps.Given as goal
 
 abbrev pub invariant-loop-step : goal.invariant-loop-step
 invariant-loop-step l = record {

@@ -2,7 +2,7 @@ use Rattle.std.proofs.Common.{◌≡◌, ◌≤◌, ap, ◌∙◌, sym, length, 
 use Rattle.duo_world.specs.Holding.{output_to}
 use Rattle.transcript.specs.Words.{other_side}
 use Rattle.transcript.proofs.Emitted.{made_of, step_told, step_lines_are}
-use Rattle.transcript.proofs.report.push_step.Goals as goal
+use Rattle.transcript.proofs.running.push_step.Goals as goal
 
 pub behind-requires : goal.behind-requires
 behind-requires c =
@@ -20,7 +20,7 @@ returns c =
     let after : c.in_flight.result.now ≡ output_to (other_side c.side_of-side.result) c.step-answer.new.self = c.in_flight.ensures.output ∙ ap (λ side. output_to side c.step-answer.new.self) c.other_side-other.ensures in
     record {
       text = step_lines_are c.args.number c.args.step c.side_of-side.result c.step-answer.result c.args.duo.now c.step-answer.new.self _ _ _ _ _ c.behind.result.now told
-        c.in_ok-push_decimal.ensures c.in_ok-push_text.ensures c.in_ok-push_answer.ensures c.in_ok-push_emitted_line.ensures
-        (c.behind.ensures ∙ (ap (λ n. drop n c.in_flight.result.now) (ap length before) ∙ ap (drop (length (output_to (other_side c.side_of-side.result) c.args.duo.now))) after));
+          c.in_ok-push_decimal.ensures c.in_ok-push_text.ensures c.in_ok-push_answer.ensures c.in_ok-push_emitted_line.ensures
+          (c.behind.ensures ∙ (ap (λ n. drop n c.in_flight.result.now) (ap length before) ∙ ap (drop (length (output_to (other_side c.side_of-side.result) c.args.duo.now))) after));
       made = (c.step-answer.result, made);
     }

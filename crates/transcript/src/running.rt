@@ -13,7 +13,10 @@ ghost use Rattle.transcript.specs.Ran.{HasMade, HasRun};
 ghost use Rattle.transcript.specs.Report.{answer_lines, step_lines, steps_lines, report_text};
 
 use crate::summary::push_summary;
-use crate::words::{other_side, push_decimal, push_emitted_line, push_event_line, push_line_feed, push_reply, push_text};
+use crate::words::{
+    other_side, push_decimal, push_emitted_line, push_event_line, push_line_feed, push_reply,
+    push_text,
+};
 use duo_world::Duo;
 use mux_run::{DuoAnswer, EndEvent, Side, Step};
 use script::Script;
@@ -41,7 +44,12 @@ fn push_events(out: &mut Vec<u8>, side: Side, events: &[EndEvent]) -> Result<(),
 }
 
 /// Appends what a step answered, and the lines of its events.
-fn push_answer(alloc: Global, out: &mut Vec<u8>, side: Side, answer: &DuoAnswer) -> Result<(), OutOfMemory>
+fn push_answer(
+    alloc: Global,
+    out: &mut Vec<u8>,
+    side: Side,
+    answer: &DuoAnswer,
+) -> Result<(), OutOfMemory>
     ensures { OnOk result (out.new.items ≡ out.old.items ++ answer_lines side answer.now) }
 {
     match answer {
@@ -73,7 +81,13 @@ fn behind(bytes: &[u8], count: usize) -> &[u8]
 }
 
 /// Makes a step, and appends its lines: what it answered, its events, and what its side emitted.
-fn push_step(alloc: Global, out: &mut Vec<u8>, duo: &mut Duo, number: u64, step: Step) -> Result<(), OutOfMemory>
+fn push_step(
+    alloc: Global,
+    out: &mut Vec<u8>,
+    duo: &mut Duo,
+    number: u64,
+    step: Step,
+) -> Result<(), OutOfMemory>
     requires built { AreBuilt (duo.old.steps ++ step ∷ []) }
     requires works { duo.old.failed ≡ false }
     requires stands { StandsForRun duo.old }
@@ -95,7 +109,12 @@ fn push_step(alloc: Global, out: &mut Vec<u8>, duo: &mut Duo, number: u64, step:
 }
 
 /// Makes all steps, from the first on, and appends their lines.
-fn push_steps(alloc: Global, out: &mut Vec<u8>, duo: &mut Duo, steps: Vec<Step>) -> Result<(), OutOfMemory>
+fn push_steps(
+    alloc: Global,
+    out: &mut Vec<u8>,
+    duo: &mut Duo,
+    steps: Vec<Step>,
+) -> Result<(), OutOfMemory>
     requires fresh { duo.old.steps ≡ [] }
     requires built { AreBuilt steps.items }
     requires works { duo.old.failed ≡ false }
