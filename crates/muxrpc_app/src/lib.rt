@@ -5,7 +5,6 @@ mod input;
 mod output;
 mod replay;
 mod status;
-
 #[cfg(test)]
 mod tests;
 

@@ -1,21 +1,22 @@
 //! The command `replay`.
 
-ghost use Rattle.std.specs.Prelude.{◌≡◌, ◌≤◌, ◌↔◌, ◌⊎◌, ℕ, List, length, true, false, Some};
+ghost use Rattle.std.specs.Prelude.{◌≡◌, ◌≤◌, ◌↔◌, ◌⊎◌, ℕ, List, length, replicate, true, false, Some, IfOk};
 ghost use Rattle.wire_base.specs.Causes.{Rose};
 ghost use Rattle.wire_base.specs.declared.frame.Version.{Version};
+ghost use Rattle.mux_run.specs.Built.{AreBuilt};
 ghost use Rattle.mux_run.specs.declared.steps.Step.{Step};
+ghost use Rattle.transcript.specs.Report.{report_text};
 ghost use Rattle.script.specs.Found.{script_in, reads};
 ghost use Rattle.muxrpc_app.specs.Words.{is_replay};
 ghost use Rattle.muxrpc_app.specs.Streams.{most_input};
-ghost use Rattle.muxrpc_app.specs.Outcome.{Replayed, input_status};
+ghost use Rattle.muxrpc_app.specs.Outcome.{Replayed, input_status, script_terms};
 
 use crate::input::{InputFault, read_input};
 use crate::output::write_output;
 use crate::status::Status;
-use script::{ScriptFault, read_script};
 use std::alloc::Global;
-use transcript::report;
-use wire_base::{Failed, Sink, Source, Text};
+use transcript::{Script, ScriptFault, read_script, report};
+use wire_base::{Failed, OutOfMemory, Sink, Source, Text};
 
 /// Whether the words are the program's name and `replay`.
 fn is_replay(words: &[Text]) -> bool
@@ -38,6 +39,18 @@ fn input_status(fault: InputFault) -> Status
     }
 }
 
+/// The report of the run of a script.
+fn report_of(alloc: Global, script: Script) -> Result<Vec<u8>, OutOfMemory>
+    requires version { script.version ≡ Version.Three }
+    requires nonces { script.nonces ≡ replicate 2 (replicate 16 0) }
+    requires built { AreBuilt script.steps }
+    ensures { IfOk result (λ text. text.items ≡ report_text (script_terms script.version) script.steps) }
+{
+    let mut text = Vec::new(alloc);
+    let _world = report(alloc, script, &mut text)?;
+    Ok(text)
+}
+
 /// Reads a script, runs it and writes the report of its run.
 fn replay<S: Source, K: Sink>(alloc: Global, input: &mut S, output: &mut K) -> Status
     ensures outcome { Replayed
@@ -53,13 +66,16 @@ fn replay<S: Source, K: Sink>(alloc: Global, input: &mut S, output: &mut K) -> S
     };
     let script = match read_script(alloc, &bytes) {
         Ok(script) => script,
-        Err(ScriptFault::Refused(line, reason)) => return Status::ScriptRefused(line, reason.number()),
+        Err(ScriptFault::Refused(line, reason)) => return Status::ScriptRefused(
+            line,
+            reason.number(),
+        ),
         Err(ScriptFault::OutOfMemory) => return Status::OutOfMemory,
     };
-    let mut text = Vec::new(alloc);
-    if report(alloc, script, &mut text).is_err() {
-        return Status::OutOfMemory;
-    }
+    let text = match report_of(alloc, script) {
+        Ok(text) => text,
+        Err(OutOfMemory) => return Status::OutOfMemory,
+    };
     match write_output(output, &text) {
         Ok(()) => Status::Done,
         Err(Failed) => Status::WriteFault,
@@ -69,7 +85,12 @@ fn replay<S: Source, K: Sink>(alloc: Global, input: &mut S, output: &mut K) -> S
 /// Does what the words say: `replay` reads a script from the input and writes the report of its run to the output.
 ///
 /// The first word is the program's name. Nothing is written but the report.
-pub fn run_plain<S: Source, K: Sink>(alloc: Global, words: &[Text], input: &mut S, output: &mut K) -> Status
+pub fn run_plain<S: Source, K: Sink>(
+    alloc: Global,
+    words: &[Text],
+    input: &mut S,
+    output: &mut K,
+) -> Status
     // Usage comes exactly where the words aren't the command, and then nothing is read or written.
     ensures usage { (result ≡ Status.Usage) ↔ (is_replay words.now ≡ false) }
     ensures untouched { result ≡ Status.Usage → (input.new ≡ input.old) × (output.new ≡ output.old) }

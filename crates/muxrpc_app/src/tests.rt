@@ -28,7 +28,13 @@ fn words(alloc: Global, names: &[&str]) -> Result<Vec<Text>, OutOfMemory> {
 }
 
 /// Runs the program on an input, whose reads with these numbers fail, as the output's writes with those.
-fn run(alloc: Global, names: &[&str], input: &[u8], reads: &[u64], writes: &[u64]) -> Result<Ran, OutOfMemory> {
+fn run(
+    alloc: Global,
+    names: &[&str],
+    input: &[u8],
+    reads: &[u64],
+    writes: &[u64],
+) -> Result<Ran, OutOfMemory> {
     let words = words(alloc, names)?;
     let mut source = MemSource::new(Blob::from_bytes(alloc, input)?, calls(alloc, reads)?);
     let mut sink = MemSink::new(alloc, calls(alloc, writes)?);
@@ -139,14 +145,25 @@ end
 #[test]
 fn an_empty_script_and_the_credit_script_are_reported(rt: HostRuntime) -> Result<(), Fail> {
     let alloc = rt.alloc();
-    replays(&rt, alloc, "script 1\nversion 3\n", "report 1\n0 start\nstate\nA running\nB running\nend\n")?;
+    replays(
+        &rt,
+        alloc,
+        "script 1\nversion 3\n",
+        "report 1\n0 start\nstate\nA running\nB running\nend\n",
+    )?;
     replays(&rt, alloc, CREDIT, CREDIT_REPORT)?;
     Ok(())
 }
 
 #[test]
 fn deliveries_of_one_byte_leave_the_same_state(rt: HostRuntime) -> Result<(), Fail> {
-    let ran = run(rt.alloc(), &["muxrpc", "replay"], CREDIT_BY_BYTES.as_bytes(), &[], &[])?;
+    let ran = run(
+        rt.alloc(),
+        &["muxrpc", "replay"],
+        CREDIT_BY_BYTES.as_bytes(),
+        &[],
+        &[],
+    )?;
     assert_eq!(rt; ran.status, Status::Done);
     assert!(rt; ran.output.as_slice().ends_with(CREDIT_STATE.as_bytes()));
     Ok(())
@@ -155,7 +172,14 @@ fn deliveries_of_one_byte_leave_the_same_state(rt: HostRuntime) -> Result<(), Fa
 #[test]
 fn words_that_are_no_command_are_refused(rt: HostRuntime) -> Result<(), Fail> {
     let alloc = rt.alloc();
-    let faulty: [&[&str]; 6] = [&[], &["muxrpc"], &["muxrpc", "--help"], &["muxrpc", "replay", "now"], &["muxrpc", "Replay"], &["muxrpc", "view"]];
+    let faulty: [&[&str]; 6] = [
+        &[],
+        &["muxrpc"],
+        &["muxrpc", "--help"],
+        &["muxrpc", "replay", "now"],
+        &["muxrpc", "Replay"],
+        &["muxrpc", "view"],
+    ];
     for names in faulty {
         let ran = run(alloc, names, b"script 1\nversion 3\n", &[], &[])?;
         assert_eq!(rt; ran.status, Status::Usage);
@@ -170,12 +194,27 @@ fn broken_scripts_are_refused_at_their_line(rt: HostRuntime) -> Result<(), Fail>
     let broken = [
         ("script 2\n", Status::ScriptRefused(1, 90)),
         ("", Status::ScriptRefused(1, 90)),
-        ("script 1\nversion 3\noffer C a 8\n", Status::ScriptRefused(3, 92)),
+        (
+            "script 1\nversion 3\noffer C a 8\n",
+            Status::ScriptRefused(3, 92),
+        ),
         ("script 1\nversion 2\n", Status::ScriptRefused(2, 94)),
-        ("script 1\nversion 3\noffer A a 8\noffer A b 8\n", Status::ScriptRefused(4, 94)),
-        ("script 1\nversion 3\noffer B a 8\n", Status::ScriptRefused(3, 94)),
-        ("script 1\nversion 3\ncomplete A A1\n", Status::ScriptRefused(3, 94)),
-        ("script 1\nversion 3\nwave A\n", Status::ScriptRefused(3, 91)),
+        (
+            "script 1\nversion 3\noffer A a 8\noffer A b 8\n",
+            Status::ScriptRefused(4, 94),
+        ),
+        (
+            "script 1\nversion 3\noffer B a 8\n",
+            Status::ScriptRefused(3, 94),
+        ),
+        (
+            "script 1\nversion 3\ncomplete A A1\n",
+            Status::ScriptRefused(3, 94),
+        ),
+        (
+            "script 1\nversion 3\nwave A\n",
+            Status::ScriptRefused(3, 91),
+        ),
         ("script 1\nversion 3", Status::ScriptRefused(2, 97)),
     ];
     for (script, status) in broken {
@@ -191,11 +230,23 @@ fn failures_of_the_input_and_the_output_are_told(rt: HostRuntime) -> Result<(), 
     let alloc = rt.alloc();
     let empty = b"script 1\nversion 3\n";
     let replay = ["muxrpc", "replay"];
-    assert_eq!(rt; run(alloc, &replay, empty, &[1], &[])?.status, Status::ReadFault);
-    assert_eq!(rt; run(alloc, &replay, empty, &[2], &[])?.status, Status::ReadFault);
-    assert_eq!(rt; run(alloc, &replay, empty, &[], &[1])?.status, Status::WriteFault);
+    assert_eq!(rt;
+        run(alloc, &replay, empty, &[1], &[])?.status,
+        Status::ReadFault
+    );
+    assert_eq!(rt;
+        run(alloc, &replay, empty, &[2], &[])?.status,
+        Status::ReadFault
+    );
+    assert_eq!(rt;
+        run(alloc, &replay, empty, &[], &[1])?.status,
+        Status::WriteFault
+    );
     // The second call of the output is the flush.
-    assert_eq!(rt; run(alloc, &replay, empty, &[], &[2])?.status, Status::WriteFault);
+    assert_eq!(rt;
+        run(alloc, &replay, empty, &[], &[2])?.status,
+        Status::WriteFault
+    );
     Ok(())
 }
 

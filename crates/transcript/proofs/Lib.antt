@@ -1,0 +1,4 @@
+pub mod Channels
+pub mod Emitted
+pub mod Reported
+pub mod Whole

@@ -1,9 +1,11 @@
 -- The report of a run.
-use Rattle.std.specs.Prelude.{ℕ, ◌+◌, List, [], ◌∷◌, ◌++◌, length, drop, filter, codes, not, Option, Some, None, Bool, true, false}
+use Rattle.std.specs.Prelude.{ℕ, ◌+◌, List, [], ◌∷◌, ◌++◌, length, drop, filter, codes, Option, Some, None, Bool, true, false}
 use Rattle.std.specs.List.{flat_map}
 use Rattle.std.specs.Fmt.{decimal}
 use Rattle.wire_base.specs.declared.frame.Version.{Version}
 use Rattle.wire_base.specs.declared.state.Cause.{Cause}
+use Rattle.wire_base.specs.declared.state.EndState.{EndState}
+use Rattle.wire_base.specs.declared.state.EndState.TheVariants as state
 use Rattle.frame_text.specs.Hello.{hello}
 use Rattle.mux_items.specs.declared.channel.ChannelKey.{ChannelKey}
 use Rattle.mux_items.specs.declared.channel.Tally.{Tally}
@@ -46,6 +48,12 @@ abbrev pub state_text : Option Cause → List ℕ
 state_text None = codes "running"
 state_text (Some c) = codes "ended " ++ cause_text c
 
+-- the same by the state that an end tells
+abbrev pub shown_state : EndState → List ℕ
+shown_state state.Running = codes "running"
+shown_state (state.Ended c) = codes "ended " ++ cause_text c
+shown_state state.Stopped = []
+
 abbrev pub tally_text : Tally → List ℕ
 tally_text t =
     phase_text t.phase ++ codes " written " ++ decimal t.written ++ codes " emitted " ++ decimal t.emitted
@@ -58,28 +66,33 @@ channel_line_of side key (Some t) = side_text side ++ codes " " ++ channel_text 
 abbrev pub channel_line : Version → Side → List Item → ChannelKey → List ℕ
 channel_line v side items key = channel_line_of side key (tally_of v key items)
 
-abbrev pub is_a : Side → Bool
-is_a A = true
-is_a B = false
+abbrev pub same_side : Side → Side → Bool
+same_side A A = true
+same_side A B = false
+same_side B A = false
+same_side B B = true
 
--- the channels that are known at a side: those that A offered, then those that B offered, each by rising id
-abbrev pub summary_keys : Side → List Item → List ChannelKey
-summary_keys side items =
-    filter (λ key. is_a (offering_side side key)) (known_keys items) ++ filter (λ key. not (is_a (offering_side side key))) (known_keys items)
+-- of these channels, as a side names them, those that another side, or itself, offered
+abbrev pub keys_of : (side offering : Side) → List ChannelKey → List ChannelKey
+keys_of side offering keys = filter (λ key. same_side (offering_side side key) offering) keys
 
--- how a side stands at the end, and its channels
+-- the lines of the channels that one side offered, by rising id, as a side knows them
+abbrev pub channel_lines : Version → (side offering : Side) → List Item → List ℕ
+channel_lines v side offering items = flat_map (channel_line v side items) (keys_of side offering (known_keys items))
+
+-- how a side stands at the end, and its channels: those that A offered, then those that B offered
 abbrev pub summary : Version → Side → List Item → List ℕ
 summary v side items =
     side_text side ++ codes " " ++ state_text (ended items) ++ line_feed
-    ++ flat_map (channel_line v side items) (summary_keys side items)
+    ++ channel_lines v side A items ++ channel_lines v side B items
 
 -- the report of the run of the steps
 abbrev pub report_text : Terms → List Step → List ℕ
 report_text terms steps =
-    codes "report 1" ++ line_feed ++ codes "0 start" ++ line_feed
+    codes "report 1\n0 start\n"
     ++ emitted_line A (hello terms.version terms.nonce_a) ++ emitted_line B (hello terms.version terms.nonce_b)
     ++ steps_lines terms 1 start steps
-    ++ codes "state" ++ line_feed
+    ++ codes "state\n"
     ++ summary terms.version A (run terms steps).a.items
     ++ summary terms.version B (run terms steps).b.items
-    ++ codes "end" ++ line_feed
+    ++ codes "end\n"

@@ -1,13 +1,9 @@
 //! The reports of runs.
 #![tactic(auto)]
 
-ghost use Rattle.std.specs.Prelude.{◌≡◌, List};
-ghost use Rattle.mux_run.specs.Run.{Terms};
-ghost use Rattle.mux_run.specs.declared.steps.Step.{Step};
-ghost use Rattle.transcript.specs.Report.{report_text};
-
+mod running;
+mod summary;
 mod words;
 
-pub fn placeholder()
-    ensures { (terms : Terms) (steps : List Step) → report_text terms steps ≡ report_text terms steps }
-{}
+pub use running::report;
+pub use script::{Script, ScriptFault, ScriptReason, read_script};

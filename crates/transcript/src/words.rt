@@ -61,7 +61,7 @@ pub(crate) fn push_side(out: &mut Vec<u8>, side: Side) -> Result<(), OutOfMemory
     }
 }
 
-fn other_side(side: Side) -> Side
+pub(crate) fn other_side(side: Side) -> Side
     ensures { result ≡ other_side side }
 {
     match side {

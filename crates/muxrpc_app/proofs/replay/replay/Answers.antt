@@ -1,0 +1,53 @@
+use Rattle.std.proofs.Common.{◌≡◌, ◌∙◌, ap, sym, take}
+use Rattle.std.specs.Io.KnownBytes.{append_known}
+use Rattle.mux_run.proofs.Safety.{run_safe}
+use Rattle.script.specs.Found.{script_in}
+use Rattle.transcript.specs.Report.{report_text}
+use Rattle.muxrpc_app.specs.Outcome.{SourceState, ReadScript, ReplayDone, WritingFailed, script_terms}
+use Rattle.muxrpc_app.proofs.replay.replay.Goals as goal
+
+pub returns-in-Ok-write_output : goal.returns-in-Ok-write_output
+returns-in-Ok-write_output g c =
+    let s = c.in-Ok-read_script.script in
+    let e = c.in-Ok.ensures in
+    let text : c.deref-2.result.now ≡ report_text (script_terms s.version) s.steps = c.deref-2.ensures.value ∙ c.in-Ok-report_of.ensures in
+    record {
+      outcome = record {
+        script = record {
+          bytes = c.in-Ok.bytes.items;
+          version = s.version;
+          steps = s.steps;
+          was_read = e.bytes;
+          within = e.within;
+          ended = e.ended;
+          at_end = e.at_end;
+          is_script = ap script_in (sym c.deref.ensures.value) ∙ c.in-Ok-read_script.ensures.exact;
+        };
+        written = c.in-Ok-write_output.ensures.written ∙ ap (append_known (g.K.Sink.given c.args.output.now)) text;
+        flushed = c.in-Ok-write_output.ensures.flushed;
+        safe = run_safe (script_terms s.version) s.steps;
+      };
+    }
+
+pub returns : goal.returns
+returns g c =
+    let s = c.in-Ok-read_script.script in
+    let e = c.in-Ok.ensures in
+    let text : c.deref-2.result.now ≡ report_text (script_terms s.version) s.steps = c.deref-2.ensures.value ∙ c.in-Ok-report_of.ensures in
+    let front = c.in-Err-write_output.ensures.front in
+    record {
+      outcome = record {
+        script = record {
+          bytes = c.in-Ok.bytes.items;
+          version = s.version;
+          steps = s.steps;
+          was_read = e.bytes;
+          within = e.within;
+          ended = e.ended;
+          at_end = e.at_end;
+          is_script = ap script_in (sym c.deref.ensures.value) ∙ c.in-Ok-read_script.ensures.exact;
+        };
+        cause = c.in-Err-write_output.ensures.cause;
+        front = (front.0, front.1 ∙ ap (λ bs. append_known (g.K.Sink.given c.args.output.now) (take front.0 bs)) text);
+      };
+    }

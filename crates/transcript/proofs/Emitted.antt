@@ -1,0 +1,115 @@
+-- What a side emits in a step.
+use Rattle.std.proofs.Common.{◌≡◌, ℕ, ◌+◌, ◌≤◌, List, [], ◌∷◌, ◌++◌, length, take, drop, refl, sym, ◌∙◌, ap, subst, arith, append_assoc, length-append}
+use Rattle.std.proofs.lemmas.List.{append-nil, append_cancel_left, take-append-le, drop_at, drop_all}
+use Rattle.std.specs.Fmt.{decimal}
+use Rattle.std.specs.Prelude.{codes}
+use Rattle.wire_base.specs.declared.frame.Version.{Version}
+use Rattle.mux_items.specs.Items.{Item}
+use Rattle.mux_run.specs.declared.steps.Side.{Side}
+use Rattle.mux_run.specs.declared.steps.Side.TheVariants.{A, B}
+use Rattle.mux_run.specs.declared.steps.Step.{Step}
+use Rattle.mux_run.specs.declared.answers.DuoAnswer.{DuoAnswer}
+use Rattle.mux_run.specs.Run.{Half, World, Terms, Ways, ways_a, ways_b, out, run, start, half_after, happens_at, happens, side_of}
+use Rattle.mux_run.specs.Answers.{answer}
+use Rattle.mux_run.proofs.Growing.{Grown, half_after_grown, out-grows}
+use Rattle.mux_run.proofs.Links.{run_from-push}
+use Rattle.mux_end.specs.Stands.{EndValue}
+use Rattle.duo_world.specs.Holding.{HalfStands, WorldStands, DuoState, StandsForRun, output_to}
+use Rattle.duo_world.specs.Stepping.{IsStepped, Steps}
+use Rattle.mux_run.specs.declared.answers.DuoAnswer.TheVariants as duo
+use Rattle.transcript.specs.Words.{other_side, emitted_line}
+use Rattle.transcript.specs.Report.{answer_lines, newly_out, step_lines}
+
+-- a front of all that went out was taken away, and more goes out: what is left grows by it
+grows_output : (d : ℕ) (all now left more_left more : List ℕ) → take d all ++ left ≡ all → take d now ++ more_left ≡ now → d ≤ length all → now ≡ all ++ more → more_left ≡ left ++ more
+grows_output d all now left more_left more was is within grown =
+    let front : take d now ≡ take d all = ap (take d) grown ∙ take-append-le d all more within in
+    append_cancel_left (take d all) more_left (left ++ more)
+    (ap (λ bs. bs ++ more_left) (sym front) ∙ (is ∙ (grown ∙ (ap (λ bs. bs ++ more) (sym was) ∙ append_assoc (take d all) left more))))
+
+-- what x emitted in a step is what its output grew by
+pub record EmitsInStep (v : Version) (nonce : List ℕ) (before after : List Item) (old new : EndValue) : Type 0 where
+  pub bytes : newly_out v nonce before after ≡ drop (length old.output) new.output
+  pub within : length old.output ≤ length new.output
+
+emits_by : (v : Version) (nonce : List ℕ) (before after : List Item) (more : List ℕ) (old new : EndValue) → out v nonce after ≡ out v nonce before ++ more → new.output ≡ old.output ++ more → EmitsInStep v nonce before after old new
+emits_by v nonce before after more old new grown is = record {
+  bytes = ap (drop (length (out v nonce before))) grown ∙ (drop_at (out v nonce before) more (length (out v nonce before)) refl ∙ sym (ap (drop (length old.output)) is ∙ drop_at old.output more (length old.output) refl));
+  within = omega (arith, ap length is, length-append old.output more);
+}
+
+emits_at : (w : Ways) (s : Step) (x y : Half) (old new : EndValue) → HalfStands w old x y → HalfStands w new (half_after w s x y) y → EmitsInStep w.version w.own x.items (half_after w s x y).items old new
+emits_at w s x y old new was is =
+    let grown = (half_after_grown w s x y).1 in
+    let more = out-grows w.version w.own grown.newer x.items in
+    let now : out w.version w.own (half_after w s x y).items ≡ out w.version w.own x.items ++ more.0 = ap (out w.version w.own) grown.is ∙ more.1 in
+    emits_by w.version w.own x.items (half_after w s x y).items more.0 old new now
+    (grows_output y.delivered (out w.version w.own x.items) (out w.version w.own (half_after w s x y).items) old.output new.output more.0 was.output is.output was.bound now)
+
+-- nothing is emitted by a side that the step isn't at
+nothing_new : (v : Version) (nonce : List ℕ) (items : List Item) → newly_out v nonce items items ≡ []
+nothing_new v nonce items = drop_all (length (out v nonce items)) (out v nonce items) (omega arith)
+
+-- the lines of a step at either side, by what its output grew by
+pub record StepTold (terms : Terms) (k : ℕ) (s : Step) (w : World) (side : Side) (result : DuoAnswer) (old new : DuoState) : Type 0 where
+  pub within : length (output_to (other_side side) old) ≤ length (output_to (other_side side) new)
+  pub text : decimal k ++ codes " " ++ answer_lines side result ++ emitted_line side (drop (length (output_to (other_side side) old)) (output_to (other_side side) new)) ≡ step_lines terms k s w
+
+told_at : (terms : Terms) (k : ℕ) (s : Step) (w : World) (side : Side) (result : DuoAnswer) (old new : DuoState) → side ≡ side_of s → result ≡ answer terms s w
+    → WorldStands terms old.a old.b w → WorldStands terms new.a new.b (happens_at terms side s w) → StepTold terms k s w side result old new
+told_at terms k s w A result old new at is was now =
+    let e = emits_at (ways_a terms) s w.a w.b old.a new.a was.at_a now.at_a in
+    let front = decimal k ++ codes " " in
+    let after : happens terms s w ≡ happens_at terms A s w = ap (λ side. happens_at terms side s w) (sym at) in
+    record {
+      within = e.within;
+      text =
+          ap (λ bs. front ++ answer_lines A result ++ emitted_line A bs) (sym e.bytes)
+          ∙ (sym (append-nil (front ++ answer_lines A result ++ emitted_line A (newly_out terms.version terms.nonce_a w.a.items (happens_at terms A s w).a.items)))
+          ∙ (ap (λ bs. front ++ answer_lines A result ++ emitted_line A (newly_out terms.version terms.nonce_a w.a.items (happens_at terms A s w).a.items) ++ emitted_line B bs) (sym (nothing_new terms.version terms.nonce_b w.b.items))
+          ∙ (ap (λ r. front ++ answer_lines A r ++ emitted_line A (newly_out terms.version terms.nonce_a w.a.items (happens_at terms A s w).a.items) ++ emitted_line B (newly_out terms.version terms.nonce_b w.b.items (happens_at terms A s w).b.items)) is
+          ∙ (ap (λ side. front ++ answer_lines side (answer terms s w) ++ emitted_line A (newly_out terms.version terms.nonce_a w.a.items (happens_at terms A s w).a.items) ++ emitted_line B (newly_out terms.version terms.nonce_b w.b.items (happens_at terms A s w).b.items)) at
+          ∙ ap (λ u. front ++ answer_lines (side_of s) (answer terms s w) ++ emitted_line A (newly_out terms.version terms.nonce_a w.a.items u.a.items) ++ emitted_line B (newly_out terms.version terms.nonce_b w.b.items u.b.items)) (sym after)))));
+    }
+told_at terms k s w B result old new at is was now =
+    let e = emits_at (ways_b terms) s w.b w.a old.b new.b was.at_b now.at_b in
+    let front = decimal k ++ codes " " in
+    let after : happens terms s w ≡ happens_at terms B s w = ap (λ side. happens_at terms side s w) (sym at) in
+    record {
+      within = e.within;
+      text =
+          ap (λ bs. front ++ answer_lines B result ++ emitted_line B bs) (sym e.bytes)
+          ∙ (ap (λ bs. bs ++ emitted_line B (newly_out terms.version terms.nonce_b w.b.items (happens_at terms B s w).b.items)) (sym (append-nil (front ++ answer_lines B result)) ∙ ap (λ bs. front ++ answer_lines B result ++ emitted_line A bs) (sym (nothing_new terms.version terms.nonce_a w.a.items)))
+          ∙ (ap (λ r. front ++ answer_lines B r ++ emitted_line A (newly_out terms.version terms.nonce_a w.a.items (happens_at terms B s w).a.items) ++ emitted_line B (newly_out terms.version terms.nonce_b w.b.items (happens_at terms B s w).b.items)) is
+          ∙ (ap (λ side. front ++ answer_lines side (answer terms s w) ++ emitted_line A (newly_out terms.version terms.nonce_a w.a.items (happens_at terms B s w).a.items) ++ emitted_line B (newly_out terms.version terms.nonce_b w.b.items (happens_at terms B s w).b.items)) at
+          ∙ ap (λ u. front ++ answer_lines (side_of s) (answer terms s w) ++ emitted_line A (newly_out terms.version terms.nonce_a w.a.items u.a.items) ++ emitted_line B (newly_out terms.version terms.nonce_b w.b.items u.b.items)) (sym after))));
+    }
+
+-- the run of one more step
+pub run_is : (old new : DuoState) (s : Step) (result : DuoAnswer) → IsStepped old new s result → run new.terms new.steps ≡ happens old.terms s (run old.terms old.steps)
+run_is old new s result made = ap (λ t. run t new.steps) made.terms_are ∙ (ap (run old.terms) made.steps_are ∙ run_from-push old.terms start old.steps s)
+
+pub step_told : (k : ℕ) (s : Step) (side : Side) (result : DuoAnswer) (old new : DuoState) → side ≡ side_of s → StandsForRun old → IsStepped old new s result → StepTold old.terms k s (run old.terms old.steps) side result old new
+step_told k s side result old new at was made =
+    let w = run old.terms old.steps in
+    let stands : WorldStands old.terms new.a new.b (run new.terms new.steps) = subst (λ t. WorldStands t new.a new.b (run new.terms new.steps)) made.terms_are made.stands in
+    let now : WorldStands old.terms new.a new.b (happens_at old.terms side s w) =
+    subst (λ u. WorldStands old.terms new.a new.b u) (run_is old new s result made ∙ ap (λ side. happens_at old.terms side s w) (sym at)) stands in
+    told_at old.terms k s w side result old new at made.reply_is was now
+
+-- a step that didn't want memory was made
+pub made_of : (old new : DuoState) (s : Step) (result : DuoAnswer) → Steps old new s result → (result ≡ duo.OutOfMemory → ⊥) → IsStepped old new s result
+made_of old new s duo.OutOfMemory h works = absurd (works refl)
+made_of old new s (duo.Replied reply events) h works = h
+made_of old new s (duo.Delivered count events) h works = h
+made_of old new s duo.Ended h works = h
+
+-- the lines of a step behind what was told before
+pub step_lines_are : (k : ℕ) (s : Step) (side : Side) (result : DuoAnswer) (old new : DuoState) (out m₁ m₂ m₃ m₄ bytes : List ℕ) → StepTold old.terms k s (run old.terms old.steps) side result old new
+    → m₁ ≡ out ++ decimal k → m₂ ≡ m₁ ++ codes " " → m₃ ≡ m₂ ++ answer_lines side result → m₄ ≡ m₃ ++ emitted_line side bytes
+    → bytes ≡ drop (length (output_to (other_side side) old)) (output_to (other_side side) new)
+    → m₄ ≡ out ++ step_lines old.terms k s (run old.terms old.steps)
+step_lines_are k s side result old new out m₁ m₂ m₃ m₄ bytes told h₁ h₂ h₃ h₄ is =
+    let whole : m₄ ≡ (((out ++ decimal k) ++ codes " ") ++ answer_lines side result) ++ emitted_line side bytes = cc in
+    let regrouped : (((out ++ decimal k) ++ codes " ") ++ answer_lines side result) ++ emitted_line side bytes ≡ out ++ (decimal k ++ codes " " ++ answer_lines side result ++ emitted_line side bytes) = simp append_assoc in
+    whole ∙ (regrouped ∙ ap (λ bs. out ++ bs) (ap (λ b. decimal k ++ codes " " ++ answer_lines side result ++ emitted_line side b) is ∙ told.text))
