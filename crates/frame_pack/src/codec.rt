@@ -56,3 +56,6 @@ impl FrameCodec for PackCodec {
         Ok(())
     }
 }
+
+#[cfg(test)]
+mod tests;

@@ -1,7 +1,7 @@
 //! Frames, read.
 
-ghost use Rattle.frame_text.specs.Codec.{Decodes, is_packed};
-ghost use Rattle.frame_text.specs.Reading.{Gives, content_at, elements, front, origin_at, packed_at, payload_at};
+ghost use Rattle.frame_text.specs.Codec.{Decodes, elements, is_packed};
+ghost use Rattle.frame_text.specs.Reading.{Gives, content_at, front, origin_at, packed_at, payload_at};
 ghost use Rattle.std.specs.Prelude.{◌≡◌, ◌<◌, ◌≤◌, ◌^◌, true};
 
 use crate::payload::carried;

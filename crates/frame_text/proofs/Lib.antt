@@ -1,3 +1,10 @@
 pub mod Heads
 pub mod Within
 pub mod Steady
+pub mod Again
+pub mod Found
+pub mod Texts
+pub mod Shortest
+pub mod Plain
+pub mod Every
+pub mod Laws

@@ -1,5 +1,5 @@
 -- What was read stays so, whatever follows.
-use Rattle.std.proofs.Common.{◌≡◌, ℕ, ◌+◌, ◌-◌, ◌≤◌, ◌<◌, Bool, true, false, cond, ltb, List, [], ◌∷◌, ◌++◌, length, take, drop, Option, Some, None, Result, Ok, Err, refl, sym, ap, subst, ◌∙◌, arith, length-append, add_assoc, inl, inr, ◌⊎◌}
+use Rattle.std.proofs.Common.{◌≡◌, ℕ, ◌+◌, ◌-◌, ◌≤◌, ◌<◌, Bool, true, false, ltb, List, [], ◌∷◌, ◌++◌, length, take, drop, Option, Some, None, Result, Ok, Err, refl, sym, ap, subst, ◌∙◌, arith, length-append, add_assoc, inl, inr, ◌⊎◌}
 use Rattle.std.specs.Int.{Width, w8, w16, w32, byte_len, from_be_bytes}
 use Rattle.std.proofs.lemmas.Bool.{ltb-false, le-ltb}
 use Rattle.std.proofs.lemmas.List.{take-append-le, drop-append-le}
@@ -7,7 +7,7 @@ use Rattle.wire_base.specs.Head.{Kind, kind_of, head_of, read_kind}
 use Rattle.wire_base.specs.declared.token.HeadStep.{HeadStep}
 use Rattle.wire_base.specs.declared.token.HeadStep.TheVariants as step
 use Rattle.wire_base.specs.declared.reason.Reason.{Reason}
-use Rattle.wire_base.specs.declared.reason.Reason.TheVariants.{BadCode, BadShape, BadId, BadSource, PayloadTooLong}
+use Rattle.wire_base.specs.declared.reason.Reason.TheVariants.{BadCode, BadShape, BadId, BadSource}
 use Rattle.wire_base.specs.declared.frame.Version.{Version}
 use Rattle.wire_base.specs.declared.frame.Version.TheVariants as version
 use Rattle.wire_base.specs.declared.frame.Code.{Code}
@@ -15,8 +15,9 @@ use Rattle.wire_base.specs.declared.frame.Origin.TheVariants as origin
 use Rattle.wire_base.specs.declared.frame.Frame.{Frame}
 use Rattle.frame_text.specs.declared.fault.Fault.{Fault}
 use Rattle.frame_text.specs.declared.fault.Fault.TheVariants.{Ends, Breaks}
+use Rattle.frame_text.specs.Codec.{elements}
 use Rattle.frame_text.specs.Front.{Front, Whole, Short, Broken}
-use Rattle.frame_text.specs.Reading.{Reading, Reader, follow, ◌>>=◌, done, Sort, a_number, a_bin, an_array, unfinished, allowed, headed, head_at, token_at, code_in, id_in, origin_in, last_in, carried, placed, run_of, payload_at, content_at, elements, origin_at, packed_at, field_at, bytes_at, plain_code, plain_id, plain_carried, plain_content_at, plain_at, frame_at, front_of, front}
+use Rattle.frame_text.specs.Reading.{Reading, Reader, follow, ◌>>=◌, done, Sort, a_number, a_bin, an_array, unfinished, allowed, headed, head_at, token_at, code_in, id_in, origin_in, last_in, carried, placed, run_of, payload_at, content_at, origin_at, packed_at, field_at, bytes_at, plain_code, plain_id, plain_carried, plain_content_at, plain_at, frame_at, front_of, front}
 use Rattle.frame_text.proofs.Heads.{head-size, head-more, head-refused, kind-unfinished, IsSort, is_sort-number, is_sort-bin, is_sort-array}
 use Rattle.frame_text.proofs.Within.{tested, front_within}
 
@@ -233,5 +234,3 @@ cut_short v a b f size (Broken offset reason) e lt is =
 -- less than a whole frame is the beginning of one
 pub front_cut : (v : Version) (a b : List ℕ) (f : Frame) (size : ℕ) → front v (a ++ b) ≡ Whole f size → length a < size → front v a ≡ Short
 front_cut v a b f size e lt = cut_short v a b f size (front v a) e lt refl
-
-pub ruleset stays = (front_stays, broken_stays, front_cut)

@@ -20,9 +20,9 @@ use Rattle.wire_base.specs.declared.frame.Payload.TheVariants as payload
 use Rattle.wire_base.specs.declared.frame.Frame.{Frame}
 use Rattle.frame_text.specs.declared.fault.Fault.{Fault}
 use Rattle.frame_text.specs.declared.fault.Fault.TheVariants.{Ends, Breaks}
-use Rattle.frame_text.specs.Reading.{Reading, Reader, follow, ◌>>=◌, done, Sort, a_number, a_str, a_bin, an_array, unfinished, allowed, headed, head_at, token_at, inside, inner_at, code_in, id_in, origin_in, count_in, last_in, only, name_of, name_at, optional_at, offer_at, accepted_at, processed_at, spoiled, ended, carried, placed, run_of, payload_at, content_at, elements, origin_at, packed_at, field_at, bytes_at, plain_code, plain_id, plain_carried, plain_content_at, plain_at, frame_at, front_of, front}
+use Rattle.frame_text.specs.Reading.{Reading, Reader, follow, ◌>>=◌, done, Sort, a_number, a_str, a_bin, an_array, unfinished, allowed, headed, head_at, token_at, inside, inner_at, code_in, id_in, origin_in, count_in, last_in, only, name_of, name_at, optional_at, offer_at, accepted_at, processed_at, spoiled, ended, carried, placed, run_of, payload_at, content_at, origin_at, packed_at, field_at, bytes_at, plain_code, plain_id, plain_carried, plain_content_at, plain_at, frame_at, front_of, front}
 use Rattle.frame_text.specs.Front.{Front, Whole, Short, Broken}
-use Rattle.frame_text.specs.Codec.{is_packed}
+use Rattle.frame_text.specs.Codec.{is_packed, elements}
 use Rattle.frame_text.proofs.Heads.{head-size, byte_len-most}
 
 -- which way a test goes
@@ -406,8 +406,6 @@ broken_near v bytes offset reason p e = subst (λ (x : Front). IsFrontNear x) e 
 
 pub front_near : (v : Version) (bytes : List ℕ) (f : Frame) (size : ℕ) → is_packed v ≡ true → front v bytes ≡ Whole f size → size ≤ 0x100055
 front_near v bytes f size p e = subst (λ (x : Front). IsFrontNear x) e (is_front-near v bytes p)
-
-pub ruleset withins = (front_within, broken_within, front_near, broken_near)
 
 pub payload_at-whole : (present : Bool) (bytes x rest : List ℕ) → payload_at present bytes ≡ Ok (x, rest) → length x + length rest ≤ length bytes
 payload_at-whole present bytes x rest e =

@@ -16,6 +16,11 @@ is_packed version.One = false
 is_packed version.Two = true
 is_packed version.Three = true
 
+-- how many elements a frame of version 2 or 3 has without its payload
+abbrev pub elements : Version → ℕ
+elements version.Three = 3
+elements v = 2
+
 -- the front breaks a rule at this place of a stream, where its first byte stands at another
 pub record IsBrokenAt (front : Front) (at place : Place) (reason : Reason) : Type 0 where
   pub offset : ℕ

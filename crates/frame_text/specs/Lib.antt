@@ -4,3 +4,4 @@ pub mod Front
 pub mod Hello
 pub mod Reading
 pub mod Codec
+pub mod Spelling

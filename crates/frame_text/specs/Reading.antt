@@ -22,6 +22,7 @@ use Rattle.frame_text.specs.declared.fault.Fault.{Fault}
 use Rattle.frame_text.specs.declared.fault.Fault.TheVariants.{Ends, Breaks}
 use Rattle.frame_text.specs.declared.fault.DecodeError.{DecodeError}
 use Rattle.frame_text.specs.declared.fault.DecodeError.TheVariants as errors
+use Rattle.frame_text.specs.Codec.{elements}
 use Rattle.frame_text.specs.Front.{Front, Whole, Short, Broken}
 
 -- what is read at the front, and the bytes after it
@@ -258,11 +259,6 @@ content_at has_payload code = do
   placed (carried code bytes)
 
 -- ---- frames of versions 2 and 3
-
--- how many elements a frame has without its payload
-abbrev pub elements : Version → ℕ
-elements version.Three = 3
-elements v = 2
 
 abbrev pub origin_at : Version → Reader Origin
 origin_at version.Three = token_at a_number origin_in BadSource

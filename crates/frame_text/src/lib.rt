@@ -3,8 +3,8 @@
 
 mod codec;
 mod fault;
-mod laws;
+mod front_laws;
 
 pub use codec::FrameCodec;
 pub use fault::{DecodeError, Fault};
-pub use laws::{front_is_steady, front_stands_within};
+pub use front_laws::{front_has_text, front_is_spelled, front_is_steady, front_stands_within};

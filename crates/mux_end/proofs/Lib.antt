@@ -1,0 +1,13 @@
+pub mod Fits
+pub mod Pieces
+pub mod Plain
+pub mod Tells
+pub mod Lanes
+pub mod Ranges
+pub mod Refuses
+pub mod Shows
+pub mod Taking
+pub mod Steps
+pub mod Answers
+pub mod Stepping
+pub mod Reading

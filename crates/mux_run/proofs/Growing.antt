@@ -18,9 +18,11 @@ use Rattle.mux_items.specs.Items.{Item, Hello, Got, Rejected, End, is_running, g
 use Rattle.mux_items.specs.Due.{due, sent, got}
 use Rattle.mux_items.specs.Refusals.{is_ready, is_greeted, frame_refusal}
 use Rattle.mux_items.specs.Applying.{Allowed, apply_frame, after_frame, item_of_frame, is_refused_room, place_at}
-use Rattle.mux_run.specs.Run.{Half, Ways, out, greeting_size, party_by, greet, greeted, apply_frames, whole_frames, next_frames, place_after, settled, call_refusal, item_of_call, unless_refused, called}
+use Rattle.mux_run.specs.Run.{Half, Ways, out, greeting_size, party_by, greet, greeted, apply_frames, whole_frames, next_frames, place_after, settled, call_refusal, item_of_call, unless_refused, called, added, is_spent, half_after}
 use Rattle.mux_run.specs.declared.steps.Call.{Call}
 use Rattle.mux_run.specs.declared.steps.Call.TheVariants as call
+use Rattle.mux_run.specs.declared.steps.Step.{Step}
+use Rattle.mux_run.specs.declared.steps.Step.TheVariants as step
 use Rattle.mux_run.proofs.WholeFrames.{frame_texts-append, whole_front}
 
 -- newer items came, by which these frames were applied
@@ -219,3 +221,36 @@ settled_advances w delivered items y ahead e = by (is_ready w.version (greeted w
           grown = grown_more w.version items (greeted w delivered items) (apply_frames w.version place next (greeted w delivered items)) [] (map flip on.done) greeted_is on.grown;
         }
     by false = record { done = []; left = ahead; are = refl; grown = greeted_is }
+
+-- settling only adds items
+pub settled_grown : (w : Ways) (delivered : ℕ) (items : List Item) (y : Half) → (frames : List ChannelFrame) × Grown w.version items (settled w delivered items y).items frames
+settled_grown w delivered items y =
+    let after = greeted w delivered items in
+    let place = place_after w (length (got after)) y in
+    let next = next_frames w delivered (length (got after)) y in
+    let on = frames_applied w.version place next after in
+    elim (is_ready w.version after) as (λ b. (frames : List ChannelFrame) × Grown w.version items (if b then apply_frames w.version place next after else after) frames) [
+      | true ↦ (map flip on.done, grown_more w.version items after (apply_frames w.version place next after) [] (map flip on.done) (greeted_grown w delivered items) on.grown)
+      | false ↦ ([], greeted_grown w delivered items)
+    ]
+
+-- a step of x only adds items
+pub half_after_grown : (w : Ways) (s : Step) (x y : Half) → (frames : List ChannelFrame) × Grown w.version x.items (half_after w s x y).items frames
+half_after_grown w (step.Call side c) x y =
+    let after = called w.version c x.items in
+    let on = settled_grown w x.delivered after y in
+    (on.0, grown_more w.version x.items after (settled w x.delivered after y).items [] on.0 (called_grown w.version c x.items) on.1)
+half_after_grown w (step.Deliver side n) x y = by (is_running x.items) refl
+  where
+    within : (b : Bool) → is_running x.items ≡ true → (frames : List ChannelFrame) × Grown w.version x.items (if b then record { items = End cause.Spent ∷ x.items; delivered = x.delivered } else settled w (x.delivered + added w n x y) x.items y).items frames
+    within true runs = ([], end_grown w.version cause.Spent x.items runs)
+    within false runs = settled_grown w (x.delivered + added w n x y) x.items y
+
+    by : (b : Bool) → is_running x.items ≡ b → (frames : List ChannelFrame) × Grown w.version x.items (if not b then x else if is_spent w n x y then record { items = End cause.Spent ∷ x.items; delivered = x.delivered } else settled w (x.delivered + added w n x y) x.items y).items frames
+    by true runs = within (is_spent w n x y) runs
+    by false runs = ([], grown_none w.version x.items)
+half_after_grown w (step.End side) x y = by (is_running x.items) refl
+  where
+    by : (b : Bool) → is_running x.items ≡ b → (frames : List ChannelFrame) × Grown w.version x.items (if b then record { items = End cause.InputEnded ∷ x.items; delivered = x.delivered } else x).items frames
+    by true runs = ([], end_grown w.version cause.InputEnded x.items runs)
+    by false runs = ([], grown_none w.version x.items)

@@ -4,3 +4,6 @@ pub mod Links
 pub mod PlainFrames
 pub mod Plain
 pub mod Safety
+pub mod Fed
+pub mod Streams
+mod Worked

@@ -74,7 +74,7 @@ pub frame_got : (v : Version) (place : ℕ) (c : ChannelKey) (body : FrameBody) 
 frame_got v place c body items room ok =
     ap (after_frame v place c body items) ok ∙ ap (λ b. (if b then Rejected place c body else Got place c body) ∷ items) room
 
-got_or_end : (v : Version) (place : ℕ) (c : ChannelKey) (body : FrameBody) (items : List Item) → is_refused_room v body items ≡ false
+pub got_or_end : (v : Version) (place : ℕ) (c : ChannelKey) (body : FrameBody) (items : List Item) → is_refused_room v body items ≡ false
     → (apply_frame v place c body items ≡ Got place c body ∷ items) ⊎ ((cause : Cause) × (apply_frame v place c body items ≡ End cause ∷ items))
 got_or_end v place c body items room = by (frame_refusal v c body items) refl
   where
@@ -93,7 +93,7 @@ stays_same items e = record { each = e; own = refl }
 pub stays_more : (xs ys zs : List Item) → StaysPlain xs ys → StaysPlain ys zs → StaysPlain xs zs
 stays_more xs ys zs s t = record { each = t.each; own = t.own ∙ s.own }
 
-stays_end : (cause : Cause) (items : List Item) → ArePlain items → StaysPlain items (End cause ∷ items)
+pub stays_end : (cause : Cause) (items : List Item) → ArePlain items → StaysPlain items (End cause ∷ items)
 stays_end cause items e = record { each = e; own = refl }
 
 pub plain_frames : (v : Version) (place : ℕ) (fs : List ChannelFrame) (items peer : List Item) → IsPlainWay v items peer fs → StaysPlain items (apply_frames v place fs items)
@@ -119,7 +119,7 @@ plain_way w delivered items y p =
     record { each = p.each; each_peer = p.each_peer; offers = p.offers; later = front.0; sends = p.sends ∙ ap (λ fs. map flip (got items) ++ fs) (sym front.1) }
 
 -- newer items that apply no frame
-same_way : (v : Version) (items after peer : List Item) → got after ≡ got items → StaysPlain items after → IsPlainWay v items peer [] → IsPlainWay v after peer []
+pub same_way : (v : Version) (items after peer : List Item) → got after ≡ got items → StaysPlain items after → IsPlainWay v items peer [] → IsPlainWay v after peer []
 same_way v items after peer same s w = record {
   each = s.each;
   each_peer = w.each_peer;
@@ -128,7 +128,7 @@ same_way v items after peer same s w = record {
   sends = w.sends ∙ ap (λ fs. map flip fs ++ w.later) (sym same);
 }
 
-plain_greeted : (w : Ways) (delivered : ℕ) (items : List Item) → ArePlain items → StaysPlain items (greeted w delivered items)
+pub plain_greeted : (w : Ways) (delivered : ℕ) (items : List Item) → ArePlain items → StaysPlain items (greeted w delivered items)
 plain_greeted w delivered items e = elim (is_running items && not (is_ready w.version items) && nat_le (greeting_size w) delivered) as (λ b. StaysPlain items (if b then greet w ∷ items else items)) [
   | true ↦ elim (bytes_eq w.own w.peer) as (λ b. StaysPlain items ((if b then End (cause.Refused (place_at (greeting_size w - length w.peer)) reason.SameNonce) else Hello (party_by w.own w.peer)) ∷ items)) [
     | true ↦ stays_end (cause.Refused (place_at (greeting_size w - length w.peer)) reason.SameNonce) items e
@@ -178,7 +178,7 @@ plain_called v side c items built e = elim (call_refusal v c items) as (λ r. Ca
     by (call.Complete key) built = cc
     by (call.Terminate key) built = cc
 
-plain_delivered : (w : Ways) (n : ℕ) (x y : Half) → IsPlainWay w.version x.items y.items [] → StaysPlain x.items (delivered_to w n x y).items
+pub plain_delivered : (w : Ways) (n : ℕ) (x y : Half) → IsPlainWay w.version x.items y.items [] → StaysPlain x.items (delivered_to w n x y).items
 plain_delivered w n x y p = elim (is_running x.items) as (λ b. StaysPlain x.items (if not b then x else if is_spent w n x y then record { items = End cause.Spent ∷ x.items; delivered = x.delivered } else settled w (x.delivered + added w n x y) x.items y).items) [
   | true ↦ elim (is_spent w n x y) as (λ b. StaysPlain x.items (if b then record { items = End cause.Spent ∷ x.items; delivered = x.delivered } else settled w (x.delivered + added w n x y) x.items y).items) [
     | true ↦ stays_end cause.Spent x.items p.each
@@ -192,7 +192,7 @@ pub record StepPlain (s : Step) (before after : List Item) : Type 0 where
   pub own : own_offers after ≤ own_offers before + one_if (is_offer_step s)
 
 -- the way into x as a step of x settles
-plain_begun : (w : Ways) (s : Step) (x y : Half) → Joined w x y → is_built_step s ≡ true → ArePlain x.items → ArePlain y.items → own_offers x.items + one_if (is_offer_step s) + own_offers y.items ≤ 1
+pub plain_begun : (w : Ways) (s : Step) (x y : Half) → Joined w x y → is_built_step s ≡ true → ArePlain x.items → ArePlain y.items → own_offers x.items + one_if (is_offer_step s) + own_offers y.items ≤ 1
     → IsPlainWay w.version (begun w.version s x.items) y.items []
 plain_begun w (step.Call side c) x y j built plain plain_peer one =
     let p = plain_called w.version side c x.items built plain in
@@ -200,7 +200,7 @@ plain_begun w (step.Call side c) x y j built plain plain_peer one =
 plain_begun w (step.Deliver side n) x y j built plain plain_peer one = linked_way w x y j.into plain plain_peer (omega arith)
 plain_begun w (step.End side) x y j built plain plain_peer one = linked_way w x y j.into plain plain_peer (omega arith)
 
-half_after_plain : (w : Ways) (s : Step) (x y : Half) → Joined w x y → is_built_step s ≡ true → ArePlain x.items → ArePlain y.items → own_offers x.items + one_if (is_offer_step s) + own_offers y.items ≤ 1
+pub half_after_plain : (w : Ways) (s : Step) (x y : Half) → Joined w x y → is_built_step s ≡ true → ArePlain x.items → ArePlain y.items → own_offers x.items + one_if (is_offer_step s) + own_offers y.items ≤ 1
     → StepPlain s x.items (half_after w s x y).items
 half_after_plain w (step.Call side c) x y j built plain plain_peer one =
     let p = plain_called w.version side c x.items built plain in
@@ -250,13 +250,13 @@ run_from_plain terms w (s ∷ steps) n j p built one =
     let on = run_from_plain terms (happens terms s w) steps m (happens_joined terms s (side_of s) w j) (happens_plain terms s (side_of s) w n refl j p both.0 (omega (arith, count))) both.1 (omega (arith, count)) in
     record { a = on.a; b = on.b; own_a = omega (arith, on.own_a, count); own_b = on.own_b }
 
-run_plain : (terms : Terms) (steps : List Step) → AreBuilt steps → PlainWorld (count_by is_offer_step steps) (run terms steps)
+pub run_plain : (terms : Terms) (steps : List Step) → AreBuilt steps → PlainWorld (count_by is_offer_step steps) (run terms steps)
 run_plain terms steps built =
     let on = run_from_plain terms start steps 0 (fresh_joined (ways_a terms)) (record { a = refl; b = refl; own_a = omega arith; own_b = omega arith }) built.each (omega (arith, built.one_offer)) in
     record { a = on.a; b = on.b; own_a = omega (arith, on.own_a); own_b = on.own_b }
 
 -- what came to x was offered by y
-heard_own : (w : Ways) (x y : Half) → Linked w x y → ArePlain y.items → heard_offers x.items ≤ own_offers y.items
+pub heard_own : (w : Ways) (x y : Half) → Linked w x y → ArePlain y.items → heard_offers x.items ≤ own_offers y.items
 heard_own w x y l plain_peer =
     let front = map flip (got x.items) in
     omega (arith, heard_got x.items, offers-flip (got x.items), offers-append front l.ahead, ap offers l.applied, sent_offers w.version y.items plain_peer)

@@ -1,5 +1,6 @@
 pub mod Built
 pub mod Cuts
+pub mod Fed
 pub mod Run
 pub mod Safe
 pub mod Linked

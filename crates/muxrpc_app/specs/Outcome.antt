@@ -10,7 +10,9 @@ use Rattle.script.specs.Found.{script_in, reads, breaks}
 use Rattle.script.specs.Numbers.{script_reason_number}
 use Rattle.script.specs.declared.reason.ScriptReason.{ScriptReason}
 use Rattle.transcript.specs.Report.{report_text}
-use Rattle.muxrpc_app.specs.Streams.{WasRead, ReadWithin, ReadPast, WroteFront, most_input}
+use Rattle.muxrpc_app.specs.Streams.{WasRead, HoldsNothing, ReadWithin, ReadPast, WroteFront, most_input}
+use Rattle.muxrpc_app.specs.declared.input.InputFault.{InputFault}
+use Rattle.muxrpc_app.specs.declared.input.InputFault.TheVariants as fault
 use Rattle.muxrpc_app.specs.declared.status.Status.{Status}
 use Rattle.muxrpc_app.specs.declared.status.Status.TheVariants as status
 
@@ -38,6 +40,7 @@ pub record ReadScript (old new : SourceState) : Type 0 where
   pub was_read : WasRead old.held new.held bytes
   pub within : length bytes ≤ most_input
   pub ended : new.ended ≡ true
+  pub at_end : HoldsNothing new.held
   pub is_script : script_in bytes ≡ reads version steps
 
 -- the report of the run of a script that was read
@@ -64,6 +67,7 @@ pub record ScriptBroken (old new : SourceState) (before after : SinkState) (line
   pub was_read : WasRead old.held new.held bytes
   pub within : length bytes ≤ most_input
   pub ended : new.ended ≡ true
+  pub at_end : HoldsNothing new.held
   pub breaks_there : script_in bytes ≡ breaks line reason
   pub number_is : number ≡ script_reason_number reason
   pub nothing : after.given ≡ before.given
@@ -80,3 +84,9 @@ Replayed old new before after status.LinkFault = ⊥
 Replayed old new before after status.OutOfMemory = after.given ≡ before.given
 Replayed old new before after status.TooLong = ReadPast old.held new.held × (after.given ≡ before.given)
 Replayed old new before after status.LinkEnded = ⊥
+
+-- the status of an input that wasn't read to its end
+abbrev pub input_status : InputFault → Status
+input_status fault.Failed = status.ReadFault
+input_status fault.TooLong = status.TooLong
+input_status fault.OutOfMemory = status.OutOfMemory

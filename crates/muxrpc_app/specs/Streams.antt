@@ -1,5 +1,5 @@
 -- What was read from a source and written to a sink.
-use Rattle.std.specs.Prelude.{◌≡◌, ◌≤◌, ℕ, ◌+◌, List, length, take, Bool, true, Option, Result, Ok, Err}
+use Rattle.std.specs.Prelude.{◌≡◌, ◌≤◌, ℕ, ◌+◌, List, [], length, take, Option, IfSome}
 use Rattle.std.specs.Io.KnownBytes.{prepend_known, append_known}
 use Rattle.wire_base.specs.Causes.{Rose}
 use Rattle.muxrpc_app.specs.declared.input.InputFault.{InputFault}
@@ -12,6 +12,10 @@ most_input = 67108864
 -- these bytes were read of what a source held, where it tells that
 abbrev pub WasRead : (old new : Option (List ℕ)) → List ℕ → Type 0
 WasRead old new bytes = old ≡ prepend_known bytes new
+
+-- where a source tells what it holds, that is nothing
+abbrev pub HoldsNothing : Option (List ℕ) → Type 0
+HoldsNothing held = IfSome held (λ bytes. bytes ≡ [])
 
 -- some bytes were read, of a number that the limit allows
 abbrev pub ReadWithin : (old new : Option (List ℕ)) → Type 0

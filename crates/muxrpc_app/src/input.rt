@@ -1,7 +1,7 @@
 //! Reading an input to its end.
 
 ghost use Rattle.std.specs.Prelude.{◌≡◌, ◌≤◌, length, IfOk, IfErr, OnOk, true};
-ghost use Rattle.muxrpc_app.specs.Streams.{WasRead, InputFails, most_input};
+ghost use Rattle.muxrpc_app.specs.Streams.{WasRead, HoldsNothing, InputFails, most_input};
 
 use std::alloc::Global;
 use wire_base::{Failed, Source};
@@ -25,6 +25,7 @@ pub(crate) fn read_input<S: Source>(alloc: Global, source: &mut S) -> Result<Vec
     ensures bytes { IfOk result (λ v. WasRead (S.held source.old) (S.held source.new) v.items) }
     ensures within { IfOk result (λ v. length v.items ≤ most_input) }
     ensures ended { OnOk result (S.ended source.new ≡ true) }
+    ensures at_end { OnOk result (HoldsNothing (S.held source.new)) }
     ensures fails { IfErr result (InputFails (S.held source.old) (S.held source.new) (S.faults source.old) (S.faults source.new)) }
     ensures later { S.faults source.old ≤ S.faults source.new }
 {

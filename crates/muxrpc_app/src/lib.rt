@@ -3,7 +3,12 @@
 
 mod input;
 mod output;
+mod replay;
 mod status;
 
+#[cfg(test)]
+mod tests;
+
 pub use input::InputFault;
+pub use replay::run_plain;
 pub use status::{Status, status_line};

@@ -1,13 +1,12 @@
 -- One more step in a script.
-use Rattle.std.proofs.Common.{◌≡◌, ℕ, ◌<◌, ◌≤◌, ◌+◌, Bool, true, false, cond, not, ◌||◌, ◌&&◌, List, [], ◌∷◌, ◌++◌, length, length-append, refl, sym, ap, ◌∙◌, arith, count_by}
-use Rattle.std.specs.List.{list_all, list_any, sum_by}
+use Rattle.std.proofs.Common.{◌≡◌, ℕ, ◌<◌, ◌≤◌, ◌+◌, Bool, true, false, cond, ◌||◌, ◌&&◌, List, [], ◌∷◌, ◌++◌, length, length-append, refl, arith, count_by}
+use Rattle.std.specs.List.{list_all, list_any}
 use Rattle.std.proofs.lemmas.Bool.{and_parts}
-use Rattle.std.proofs.lemmas.List.Folds.{list_all-append, list_any-append}
+use Rattle.std.proofs.lemmas.List.Folds.{list_all-append}
 use Rattle.std.proofs.lemmas.List.Sums.{sum_by-append, sum_by-cons, sum_by_push}
-use Rattle.mux_run.specs.Built.{AreBuilt, is_built_step, is_offer_step}
+use Rattle.mux_run.specs.Built.{is_built_step, is_offer_step}
 use Rattle.mux_run.specs.declared.steps.Step.{Step}
 use Rattle.script.specs.Spelling.{AreScripted, is_spellable, most_steps}
-use Rattle.script.proofs.Tests.{and_true}
 
 -- one for an offer
 abbrev offers : Step → ℕ
@@ -39,13 +38,13 @@ still_one false false n le f h = omega arith
 pub one_more : (steps : List Step) (s : Step) → AreScripted steps → is_spellable s ≡ true → is_built_step s ≡ true → (list_any is_offer_step steps && is_offer_step s) ≡ false → length steps < most_steps
     → AreScripted (steps ++ s ∷ [])
 one_more steps s h spellable built first few = record {
-    spellable = rw (list_all-append is_spellable steps (s ∷ []), h.spellable, spellable) refl;
-    built = record {
-      each = rw (list_all-append is_built_step steps (s ∷ []), h.built.each, built) refl;
-      one_offer = rw (sum_by_push offers steps s) (still_one (list_any is_offer_step steps) (is_offer_step s) (count_by is_offer_step steps) h.built.one_offer (any_none steps) first);
-    };
-    few = simp length-append (omega arith);
-  }
+  spellable = rw (list_all-append is_spellable steps (s ∷ []), h.spellable, spellable) refl;
+  built = record {
+    each = rw (list_all-append is_built_step steps (s ∷ []), h.built.each, built) refl;
+    one_offer = rw (sum_by_push offers steps s) (still_one (list_any is_offer_step steps) (is_offer_step s) (count_by is_offer_step steps) h.built.one_offer (any_none steps) first);
+  };
+  few = simp length-append (omega arith);
+}
 
 no_second : (any b : Bool) (n m : ℕ) → n + (cond b 1 0 + m) ≤ 1 → (any ≡ true → 1 ≤ n) → (any && b) ≡ false
 no_second true true n m le f = let e = f refl in absurd (omega arith)

@@ -1,5 +1,5 @@
 -- Hex words in lower case.
-use Rattle.std.proofs.Common.{◌≡◌, ◌≢◌, ℕ, zero, suc, ◌+◌, ◌*◌, ◌/◌, ◌%◌, ◌<◌, ◌≤◌, ◌==◌, Bool, true, false, cond, ltb, eqb, leb, ◌||◌, ◌&&◌, List, [], ◌∷◌, length, get_or, slice_index, refl, sym, ap, ◌∙◌, subst, Option, Some, None, option_and_then, Result, Ok, Err, arith, ◌⊎◌, inl, inr, add-zero, if◌then◌else◌}
+use Rattle.std.proofs.Common.{◌≡◌, ◌≢◌, ℕ, zero, suc, ◌+◌, ◌*◌, ◌/◌, ◌%◌, ◌<◌, Bool, true, false, cond, ltb, eqb, ◌||◌, ◌&&◌, List, [], ◌∷◌, length, slice_index, refl, sym, ap, ◌∙◌, Option, Some, None, option_and_then, Result, Ok, Err, arith, inl, inr, if◌then◌else◌}
 use Rattle.std.specs.List.{list_any}
 use Rattle.std.specs.Result.{result_ok, result_unwrap_or}
 use Rattle.std.specs.Str.{bytes_eq}
@@ -8,10 +8,10 @@ use Rattle.std.proofs.lemmas.Bool.Decides.{nat_tests}
 use Rattle.std.proofs.lemmas.List.{get_or_past}
 use Rattle.hex.specs.Hex.{IsBytes, decode_of, decode_pairs, digit_or_error, hex_digit_value, encode_lower, encode_with, lower_digits, pair_value, value_at, ◌>>=◌}
 use Rattle.hex.specs.declared.error.FromHexError.{FromHexError}
-use Rattle.hex.proofs.HexLemmas.{decode_of-even, decode_of-encode_lower, decode_pairs-ok, length-encode_with}
+use Rattle.hex.proofs.HexLemmas.{decode_of-encode_lower, decode_pairs-ok, length-encode_with}
 use Rattle.script.specs.Spelling.{hyphen, bytes_word}
 use Rattle.script.specs.Words.{bytes_in, is_capital, if_written}
-use Rattle.script.proofs.Tests.{bytes_eq-same, same_from_bytes_eq, or_false, not_true, tested}
+use Rattle.script.proofs.ByteTests.{bytes_eq-same, same_from_bytes_eq, or_false, not_true, tested}
 
 -- the digit of a value below 16
 abbrev pub glyph : ℕ → ℕ
@@ -50,9 +50,9 @@ glyph_low d lt = grind (arith, nat_tests)
 
 digit_low : (d : ℕ) → is_capital (slice_index lower_digits d) ≡ false
 digit_low d = elim (cases_lt d 16) [
-    | inl below ↦ rw (lower_is_glyph d below) (glyph_low d below)
-    | inr past ↦ rw (get_or_past lower_digits d 0 past) refl
-  ]
+  | inl below ↦ rw (lower_is_glyph d below) (glyph_low d below)
+  | inr past ↦ rw (get_or_past lower_digits d 0 past) refl
+]
 
 low_text : (bs : List ℕ) → list_any is_capital (encode_lower bs) ≡ false
 unfolding encode_with
@@ -167,10 +167,10 @@ none_are_bytes i = omega arith
 -- what was read is written so
 pub bytes_in-some : (word bs : List ℕ) → bytes_in word ≡ Some bs → (bytes_word bs ≡ word) × IsBytes bs
 bytes_in-some word bs h = elim (tested (bytes_eq word hyphen)) [
-    | inl e ↦
-        let none : [] ≡ bs = let s = sym (bytes_in-hyphen word e) ∙ h in cc in
-        rw (← none) (sym (same_from_bytes_eq word hyphen e), none_are_bytes)
-    | inr e ↦ read_back word bs (decode_of word) refl (sym (bytes_in-other word e) ∙ h)
-  ]
+  | inl e ↦
+      let none : [] ≡ bs = let s = sym (bytes_in-hyphen word e) ∙ h in cc in
+      rw (← none) (sym (same_from_bytes_eq word hyphen e), none_are_bytes)
+  | inr e ↦ read_back word bs (decode_of word) refl (sym (bytes_in-other word e) ∙ h)
+]
 
 pub ruleset hex_words = (bytes_in-hyphen, bytes_in-empty, bytes_in-capital, bytes_in-decoded, bytes_in-failed)

@@ -1,4 +1,4 @@
-mod Tests
+mod ByteTests
 mod LineLemmas
 mod NumberLemmas
 mod HexWords

@@ -1,10 +1,10 @@
 -- A text and its lines.
-use Rattle.std.proofs.Common.{◌≡◌, ℕ, Bool, true, false, cond, eqb, eqb-true, not, ◌&&◌, ◌==◌, List, [], ◌∷◌, ◌++◌, refl, sym, ap, ◌∙◌, inl, inr, if◌then◌else◌}
+use Rattle.std.proofs.Common.{◌≡◌, ℕ, Bool, true, false, cond, eqb, eqb-true, not, List, [], ◌∷◌, ◌++◌, refl, ap, ◌∙◌, inl, inr}
 use Rattle.std.specs.List.{list_all, flat_map}
 use Rattle.std.proofs.lemmas.Bool.{and_parts}
 use Rattle.script.specs.Spelling.{ended, stands_in_line}
 use Rattle.script.specs.Lines.{TextLine, lines_of, onto_line, line_bytes}
-use Rattle.script.proofs.Tests.{tested}
+use Rattle.script.proofs.ByteTests.{tested}
 
 not_false : (b : Bool) → not b ≡ true → b ≡ false
 not_false true h = cc
@@ -29,9 +29,9 @@ onto_bytes b (line ∷ lines) = by_end line.has_end line.text lines
 pub flat_map-lines_of : (bytes : List ℕ) → flat_map line_bytes (lines_of bytes) ≡ bytes
 flat_map-lines_of [] = refl
 flat_map-lines_of (b ∷ bytes) = elim (tested (eqb b 10)) [
-    | inl e ↦ rw (e, eqb-true b 10 e) (ap (λ bs. 10 ∷ bs) (flat_map-lines_of bytes))
-    | inr e ↦ rw e (onto_bytes b (lines_of bytes) ∙ ap (λ bs. b ∷ bs) (flat_map-lines_of bytes))
-  ]
+  | inl e ↦ rw (e, eqb-true b 10 e) (ap (λ bs. 10 ∷ bs) (flat_map-lines_of bytes))
+  | inr e ↦ rw e (onto_bytes b (lines_of bytes) ∙ ap (λ bs. b ∷ bs) (flat_map-lines_of bytes))
+]
 
 -- no line feed in a line
 abbrev pub lacks_feed : TextLine → Bool
@@ -44,6 +44,6 @@ onto_lacks b (line ∷ lines) e h = rw e h
 pub lines_of-lack : (bytes : List ℕ) → list_all lacks_feed (lines_of bytes) ≡ true
 lines_of-lack [] = refl
 lines_of-lack (b ∷ bytes) = elim (tested (eqb b 10)) [
-    | inl e ↦ rw e (lines_of-lack bytes)
-    | inr e ↦ rw e (onto_lacks b (lines_of bytes) e (lines_of-lack bytes))
-  ]
+  | inl e ↦ rw e (lines_of-lack bytes)
+  | inr e ↦ rw e (onto_lacks b (lines_of bytes) e (lines_of-lack bytes))
+]

@@ -1,11 +1,11 @@
 -- The words that a step is written by are texts, and each is one word.
-use Rattle.std.proofs.Common.{◌≡◌, ℕ, ◌<◌, ◌+◌, ◌/◌, ◌%◌, ◌^◌, Bool, true, false, eqb, ltb, not, ◌||◌, ◌&&◌, inl, inr, List, [], ◌∷◌, ◌++◌, slice_index, refl, sym, ap, subst, ◌∙◌, codes, arith, lit<}
+use Rattle.std.proofs.Common.{◌≡◌, ℕ, ◌<◌, ◌/◌, ◌%◌, Bool, true, false, eqb, ltb, ◌||◌, ◌&&◌, inl, inr, List, [], ◌∷◌, slice_index, refl, codes, arith, lit<}
 use Rattle.std.specs.Prelude.{IsUtf8}
 use Rattle.std.specs.Fmt.{decimal}
 use Rattle.std.specs.Char.{digit_value}
 use Rattle.std.specs.List.{list_all, join_with_byte}
 use Rattle.std.specs.Str.{is_utf8, IsAscii}
-use Rattle.std.specs.Str.Parse.{AllDigits, digits_value}
+use Rattle.std.specs.Str.Parse.{AllDigits}
 use Rattle.std.proofs.lemmas.Bool.{and_parts}
 use Rattle.std.proofs.lemmas.Bool.Decides.{nat_tests}
 use Rattle.std.proofs.lemmas.Fmt.{digits_decimal}
@@ -17,15 +17,14 @@ use Rattle.hex.specs.Hex.{encode_lower, encode_with, lower_digits}
 use Rattle.mux_items.specs.declared.channel.ChannelKey.{ChannelKey}
 use Rattle.mux_run.specs.declared.steps.Side.{Side}
 use Rattle.mux_run.specs.declared.steps.Side.TheVariants.{A, B}
-use Rattle.mux_run.specs.declared.steps.Call.{Call}
 use Rattle.mux_run.specs.declared.steps.Call.TheVariants as call
 use Rattle.mux_run.specs.declared.steps.Step.{Step}
 use Rattle.mux_run.specs.declared.steps.Step.TheVariants as step
 use Rattle.script.specs.Spelling.{side_word, channel_word, offering_side, name_word, bytes_word, count_word, step_words, step_text, hyphen, everything, is_number, is_name, is_byte, is_spellable, stands_in_word, stands_in_line}
 use Rattle.script.specs.Words.{words_of}
-use Rattle.script.proofs.Tests.{tested, and_true, or_false}
+use Rattle.script.proofs.ByteTests.{tested, and_true}
 use Rattle.script.proofs.NumberLemmas.{own}
-use Rattle.script.proofs.HexWords.{glyph, lower_is_glyph}
+use Rattle.script.proofs.HexWords.{lower_is_glyph}
 use Rattle.script.proofs.Splits.{is_word, words_of-joined}
 use Rattle.script.proofs.StepWords.{is_text_word}
 
@@ -93,9 +92,9 @@ number_from_test n h e = grind (arith, nat_tests)
 
 visible_count : (n : ℕ) → (is_number n || eqb n everything) ≡ true → is_visible_word (count_word n) ≡ true
 visible_count n h = elim (tested (eqb n everything)) [
-    | inl e ↦ rw e refl
-    | inr e ↦ rw e (visible_decimal n (number_from_test n h e))
-  ]
+  | inl e ↦ rw e refl
+  | inr e ↦ rw e (visible_decimal n (number_from_test n h e))
+]
 
 text_name : (name : List ℕ) → is_name name ≡ true → is_text_word (name_word name) ≡ true
 text_name [] h = visible_word hyphen refl

@@ -1,13 +1,12 @@
 -- Scripts and their texts.
-use Rattle.std.proofs.Common.{◌≡◌, ◌≢◌, ℕ, ◌<◌, ◌≤◌, ◌+◌, ◌⊎◌, inl, inr, Bool, true, false, cond, eqb, ◌&&◌, List, [], ◌∷◌, ◌++◌, length, refl, Result, Ok, Err, sym, ap, subst, ◌∙◌, arith, append_assoc, codes}
+use Rattle.std.proofs.Common.{◌≡◌, ◌≢◌, ℕ, ◌≤◌, ◌+◌, inl, inr, Bool, true, false, cond, ◌&&◌, List, [], ◌∷◌, ◌++◌, length, refl, Ok, Err, sym, ap, subst, ◌∙◌, arith, append_assoc, codes}
 use Rattle.std.specs.Prelude.{◌↔◌}
-use Rattle.std.specs.List.{list_all, list_any, flat_map, join_with_byte}
+use Rattle.std.specs.List.{list_all, flat_map, join_with_byte}
 use Rattle.std.specs.Str.{is_utf8, bytes_eq, chars}
 use Rattle.std.proofs.lemmas.Bool.{and_parts}
 use Rattle.std.proofs.lemmas.List.{append-nil}
 use Rattle.std.proofs.lemmas.List.Splits.{join_with_byte-slice_split}
 use Rattle.std.proofs.lemmas.Str.{IsUtf8-from_is_utf8}
-use Rattle.mux_run.specs.Built.{is_offer_step}
 use Rattle.mux_run.specs.declared.steps.Step.{Step}
 use Rattle.wire_base.specs.declared.frame.Version.{Version}
 use Rattle.wire_base.specs.declared.frame.Version.TheVariants as version
@@ -16,9 +15,9 @@ use Rattle.script.specs.declared.reason.ScriptReason.TheVariants as reason
 use Rattle.script.specs.Spelling.{AreScripted, is_spellable, step_text, step_words, step_lines, script_text, head_text, ended, stands_in_line, is_line_text}
 use Rattle.script.specs.Lines.{TextLine, lines_of, line_bytes}
 use Rattle.script.specs.Words.{words_of}
-use Rattle.script.specs.Steps.{on_ok, text_in, step_in, step_by, format_in, version_in, begins_built}
-use Rattle.script.specs.Found.{Found, reads, breaks, behind, steps_from, version_from, script_from, script_in, BreaksBehind, IsScript}
-use Rattle.script.proofs.Tests.{same_from_bytes_eq, tested}
+use Rattle.script.specs.Steps.{on_ok, text_in, step_in, format_in, version_in, begins_built}
+use Rattle.script.specs.Found.{reads, breaks, steps_from, script_from, script_in, BreaksBehind, IsScript}
+use Rattle.script.proofs.ByteTests.{same_from_bytes_eq, tested}
 use Rattle.script.proofs.TextLemmas.{text_in-ended}
 use Rattle.script.proofs.LineTexts.{lacks_feed, lines_of-lack, flat_map-lines_of}
 use Rattle.script.proofs.StepLines.{text_in-ok, IsWhole, on_ok-ok, step_text-words, text_words}
@@ -135,14 +134,18 @@ script_from-breaks (first ∷ second ∷ lines) number fault lacks h low =
     let head = head_read first second u v format version in
     let d = steps_from-breaks v [] 3 lines number fault none_scripted m.1 c in
     let broken = d.3 in
-    let place = broken.place in
-    (d.0, d.1, d.2, record {
-      scripted = broken.scripted;
-      text = head_moved first second (flat_map line_bytes lines) (step_lines d.0 ++ flat_map line_bytes (d.1 ∷ d.2)) head.text broken.text
-        ∙ sym (append_assoc head_text (step_lines d.0) (flat_map line_bytes (d.1 ∷ d.2)));
-      place = omega arith;
-      broken = broken.broken;
-    })))
+    let place = broken.place in (
+      d.0,
+      d.1,
+      d.2,
+      record {
+        scripted = broken.scripted;
+        text = head_moved first second (flat_map line_bytes lines) (step_lines d.0 ++ flat_map line_bytes (d.1 ∷ d.2)) head.text broken.text
+            ∙ sym (append_assoc head_text (step_lines d.0) (flat_map line_bytes (d.1 ∷ d.2)));
+        place = omega arith;
+        broken = broken.broken;
+      },
+    )))
 
 -- what stands before the first broken line is a script
 pub is_broken : (bytes : List ℕ) (number : ℕ) (fault : ScriptReason) → script_in bytes ≡ breaks number fault → 3 ≤ number → SomeBehind bytes number fault
@@ -152,9 +155,9 @@ is_broken bytes number fault h low =
 
 step_in-spelled : (s : Step) → is_spellable s ≡ true → step_in (step_words s) ≢ Err reason.BadWord
 step_in-spelled s spelled h = elim (tested (has_word s)) [
-    | inl word ↦ let e = step_in-words s spelled word in cc
-    | inr other ↦ let e = step_in-other s other in cc
-  ]
+  | inl word ↦ let e = step_in-words s spelled word in cc
+  | inr other ↦ let e = step_in-other s other in cc
+]
 
 joined : (text : List ℕ) (s : Step) → words_of text ≡ step_words s → step_text s ≡ text
 joined text s e = sym (sym (join_with_byte-slice_split 32 text) ∙ ap (join_with_byte 32) e)
@@ -164,8 +167,11 @@ pub bad_word : (text : List ℕ) → is_line_text text ≡ true → (step_in (wo
     ↔ ((begins_built (words_of text) ≡ true) × ((s : Step) → is_spellable s ≡ true → step_text s ≢ text))
 bad_word text line =
     let l = and_parts (is_utf8 text) (list_all stands_in_line text) line in (
-      λ h. (bad_word-begins (words_of text) h, λ s spelled same.
-        step_in-spelled s spelled (sym (ap step_in (step_text-words s spelled)) ∙ ap (λ t. step_in (words_of t)) same ∙ h)),
+      λ h. (
+        bad_word-begins (words_of text) h,
+        λ s spelled same.
+            step_in-spelled s spelled (sym (ap step_in (step_text-words s spelled)) ∙ ap (λ t. step_in (words_of t)) same ∙ h),
+      ),
       λ p. elim (bad_or_step (words_of text) p.0) [
         | inl h ↦ h
         | inr q ↦

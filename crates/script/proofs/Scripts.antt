@@ -1,10 +1,10 @@
 -- The lines of steps, written and read.
-use Rattle.std.proofs.Common.{◌≡◌, ℕ, suc, ◌<◌, ◌≤◌, ◌+◌, Bool, true, false, cond, ◌&&◌, List, [], ◌∷◌, ◌++◌, length, length-append, refl, Result, Ok, Err, sym, ap, subst, ◌∙◌, arith, append_assoc, add-zero, add-one}
+use Rattle.std.proofs.Common.{◌≡◌, ℕ, suc, ◌+◌, true, List, [], ◌∷◌, ◌++◌, length, length-append, refl, Result, Ok, Err, ap, subst, ◌∙◌, arith, append_assoc, add-zero}
 use Rattle.std.specs.List.{list_all, list_any, flat_map}
 use Rattle.std.proofs.lemmas.Bool.{and_parts}
 use Rattle.std.proofs.lemmas.List.{append-nil}
 use Rattle.std.proofs.lemmas.List.Concat.{flat_map-append}
-use Rattle.mux_run.specs.Built.{AreBuilt, is_built_step, is_offer_step}
+use Rattle.mux_run.specs.Built.{is_offer_step}
 use Rattle.mux_run.specs.declared.steps.Step.{Step}
 use Rattle.wire_base.specs.declared.frame.Version.{Version}
 use Rattle.script.specs.declared.reason.ScriptReason.{ScriptReason}
@@ -12,9 +12,9 @@ use Rattle.script.specs.Spelling.{AreScripted, step_text, step_lines, ended}
 use Rattle.script.specs.Lines.{TextLine, lines_of, line_bytes}
 use Rattle.script.specs.Steps.{step_after}
 use Rattle.script.specs.Found.{Found, reads, breaks, behind, steps_from}
-use Rattle.script.proofs.Counts.{one_more, MayStand, next_stands}
+use Rattle.script.proofs.Counts.{one_more, next_stands}
 use Rattle.script.proofs.LineTexts.{lacks_feed, lines_of-front}
-use Rattle.script.proofs.StepLines.{step_line, step_text-in_line, step_after-step_line, step_after-ok, IsStepLine}
+use Rattle.script.proofs.StepLines.{step_line, step_text-in_line, step_after-step_line, step_after-ok}
 
 regroup : (steps more : List Step) (s : Step) → (steps ++ s ∷ []) ++ more ≡ steps ++ s ∷ more
 regroup steps more s = append_assoc steps (s ∷ []) more
@@ -80,13 +80,17 @@ broken_later : (steps : List Step) (s : Step) (number : ℕ) (line : TextLine) (
 broken_later steps s number line lines at fault e t b =
     let broken = b.3 in
     let place = broken.place in
-    let one = length-append steps (s ∷ []) in
-    (b.0, b.1, b.2, record {
-      scripted = broken.scripted;
-      text = line_moved steps s line (flat_map line_bytes lines) e t ∙ broken.text;
-      place = omega arith;
-      broken = broken.broken;
-    })
+    let one = length-append steps (s ∷ []) in (
+      b.0,
+      b.1,
+      b.2,
+      record {
+        scripted = broken.scripted;
+        text = line_moved steps s line (flat_map line_bytes lines) e t ∙ broken.text;
+        place = omega arith;
+        broken = broken.broken;
+      },
+    )
 
 -- where what follows a part of a line breaks
 pub behind_breaks : {X P : Type 0} (number : ℕ) (r : Result X ScriptReason) (f : X → Found) (at : ℕ) (fault : ScriptReason) → behind number r f ≡ breaks at fault

@@ -1,6 +1,6 @@
 -- Words that are joined are the words of their line.
-use Rattle.std.proofs.Common.{◌≡◌, ℕ, Bool, true, false, cond, eqb, not, ◌||◌, ◌&&◌, List, [], ◌∷◌, ◌++◌, refl, sym, ap, ◌∙◌, inl, inr, arith, ◌<◌, ◌+◌, length, length-append, get_or, take, drop, subst, lit<}
-use Rattle.std.specs.List.{list_all, slice_split, onto_first, join_with_byte}
+use Rattle.std.proofs.Common.{◌≡◌, ℕ, Bool, true, false, eqb, List, [], ◌∷◌, ◌++◌, refl, sym, ap, ◌∙◌, inl, inr, arith, ◌<◌, ◌+◌, length, length-append, get_or, take, drop, subst, lit<}
+use Rattle.std.specs.List.{list_all, onto_first, join_with_byte}
 use Rattle.std.specs.Prelude.{IsUtf8}
 use Rattle.std.specs.Str.{is_utf8}
 use Rattle.std.proofs.lemmas.Bool.{and_parts}
@@ -8,7 +8,7 @@ use Rattle.std.proofs.lemmas.List.{take_at, drop_at, get_or_at, drop-drop}
 use Rattle.std.proofs.lemmas.Str.{IsUtf8-take, IsUtf8-drop, IsUtf8-from_is_utf8, is_utf8-from_IsUtf8, IsCharBoundary-before_ascii, IsCharBoundary-after_ascii}
 use Rattle.script.specs.Spelling.{stands_in_word, stands_in_line}
 use Rattle.script.specs.Words.{words_of}
-use Rattle.script.proofs.Tests.{not_parts, and_true, tested}
+use Rattle.script.proofs.ByteTests.{not_parts, tested}
 
 -- a list of bytes that is one word or empty
 abbrev pub is_word : List ℕ → Bool

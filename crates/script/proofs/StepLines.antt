@@ -1,8 +1,7 @@
 -- The line of a step, written and read.
-use Rattle.std.proofs.Common.{◌≡◌, ℕ, ◌<◌, Bool, true, false, cond, eqb, ltb, not, ◌||◌, ◌&&◌, ◌⊎◌, inl, inr, List, [], ◌∷◌, ◌++◌, length, refl, Result, Ok, Err, sym, ap, subst, ◌∙◌, arith}
-use Rattle.std.specs.List.{list_all, list_any, join_with_byte}
+use Rattle.std.proofs.Common.{◌≡◌, ℕ, ◌<◌, Bool, true, false, cond, ltb, not, ◌&&◌, List, refl, Result, Ok, Err, sym, ap, subst, ◌∙◌, arith}
+use Rattle.std.specs.List.{list_all, join_with_byte}
 use Rattle.std.specs.Str.{is_utf8}
-use Rattle.std.proofs.lemmas.Bool.{and_parts}
 use Rattle.std.proofs.lemmas.Bool.Decides.{nat_tests}
 use Rattle.std.proofs.lemmas.List.Splits.{join_with_byte-slice_split}
 use Rattle.mux_run.specs.Built.{is_built_step, is_offer_step}
@@ -13,9 +12,8 @@ use Rattle.script.specs.Spelling.{step_words, step_text, is_spellable, most_step
 use Rattle.script.specs.Lines.{TextLine}
 use Rattle.script.specs.Words.{words_of}
 use Rattle.script.specs.Steps.{on_ok, text_in, admitted, step_in, step_after}
-use Rattle.script.proofs.Tests.{not_parts}
 use Rattle.script.proofs.TextLemmas.{text_in-ended}
-use Rattle.script.proofs.Splits.{is_word, words_of-words, utf8_words}
+use Rattle.script.proofs.Splits.{words_of-words, utf8_words}
 use Rattle.script.proofs.LineTexts.{lacks_feed}
 use Rattle.script.proofs.StepWords.{is_text_word, step_in-words, step_in-ok, built_has_word}
 use Rattle.script.proofs.PlainWords.{step_words-texts, texts_are_utf8, texts_are_words, words_are_texts, utf8_joined, feed_joined, words_of-step_text}

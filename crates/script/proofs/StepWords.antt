@@ -1,8 +1,8 @@
 -- The words of a step, written and read.
-use Rattle.std.proofs.Common.{◌≡◌, ◌≢◌, ℕ, zero, suc, ◌<◌, ◌^◌, ◌-◌, Bool, true, false, cond, eqb, eqb-true, ltb, not, ◌||◌, ◌&&◌, ◌⊎◌, inl, inr, List, [], ◌∷◌, ◌++◌, slice_index, refl, Option, Some, None, Result, Ok, Err, option_and_then, sym, ap, subst, ◌∙◌, codes, arith}
+use Rattle.std.proofs.Common.{◌≡◌, ℕ, zero, suc, ◌<◌, ◌^◌, Bool, true, false, cond, eqb, eqb-true, not, ◌||◌, ◌&&◌, ◌⊎◌, inl, inr, List, [], ◌∷◌, ◌++◌, refl, Option, Some, None, Ok, Err, sym, ap, subst, codes, arith}
 use Rattle.std.specs.Option.{ok_or}
 use Rattle.std.specs.Fmt.{decimal, digits}
-use Rattle.std.specs.List.{list_all, list_any, join_with_byte}
+use Rattle.std.specs.List.{list_all, list_any}
 use Rattle.std.specs.Str.{is_utf8, bytes_eq}
 use Rattle.std.proofs.lemmas.Bool.{and_parts}
 use Rattle.std.proofs.lemmas.Bool.Decides.{nat_tests}
@@ -13,18 +13,16 @@ use Rattle.mux_items.specs.declared.channel.ChannelKey.{ChannelKey}
 use Rattle.mux_run.specs.Built.{is_built_step}
 use Rattle.mux_run.specs.declared.steps.Side.{Side}
 use Rattle.mux_run.specs.declared.steps.Side.TheVariants.{A, B}
-use Rattle.mux_run.specs.declared.steps.Call.{Call}
 use Rattle.mux_run.specs.declared.steps.Call.TheVariants as call
 use Rattle.mux_run.specs.declared.steps.Step.{Step}
 use Rattle.mux_run.specs.declared.steps.Step.TheVariants as step
-use Rattle.script.specs.declared.reason.ScriptReason.{ScriptReason}
 use Rattle.script.specs.declared.reason.ScriptReason.TheVariants as reason
 use Rattle.script.specs.declared.step_word.StepWord.{StepWord}
 use Rattle.script.specs.declared.step_word.StepWord.TheVariants as word
-use Rattle.script.specs.Spelling.{side_word, channel_word, offering_side, peer_of, name_word, bytes_word, count_word, step_words, call_words, hyphen, everything, is_number, is_name, is_byte, is_spellable, is_spellable_call, stands_in_word}
-use Rattle.script.specs.Words.{◌>>=◌, side_in, front_in, number_in, channel_in, name_in, bytes_in, count_in, is_same_side}
+use Rattle.script.specs.Spelling.{side_word, channel_word, offering_side, name_word, count_word, step_words, hyphen, everything, is_number, is_name, is_byte, is_spellable, stands_in_word}
+use Rattle.script.specs.Words.{side_in, front_in, number_in, channel_in, name_in, bytes_in, count_in, is_same_side}
 use Rattle.script.specs.Steps.{step_word_in, offer_in, accept_in, write_in, read_in, deliver_in, step_by, step_in, later_words, built_words, begins_built}
-use Rattle.script.proofs.Tests.{tested, not_true, bytes_eq-same, same_from_bytes_eq, and_true, chosen, not_both}
+use Rattle.script.proofs.ByteTests.{tested, not_true, same_from_bytes_eq, and_true, chosen}
 use Rattle.script.proofs.NumberLemmas.{number_in-decimal, number_in-some}
 use Rattle.script.proofs.HexWords.{bytes_in-written, bytes_in-some}
 
@@ -80,12 +78,12 @@ no_all n h = not_true (bytes_eq (decimal n) (codes "all")) (λ e.
 count_in-word : (n : ℕ) → (is_number n || eqb n everything) ≡ true → count_in (count_word n) ≡ Some n
 unfolding count_in
 count_in-word n h = elim (tested (eqb n everything)) [
-    | inl e ↦ rw (eqb-true n everything e) refl
-    | inr e ↦
-        let small : is_number n ≡ true = grind (arith, nat_tests) in
-        let number = number_in-word n small in
-        rw (e, no_all n number) number
-  ]
+  | inl e ↦ rw (eqb-true n everything e) refl
+  | inr e ↦
+      let small : is_number n ≡ true = grind (arith, nat_tests) in
+      let number = number_in-word n small in
+      rw (e, no_all n number) number
+]
 
 -- a step whose step word is built
 abbrev pub has_word : Step → Bool
@@ -151,9 +149,9 @@ chosen_side false false s h = cc h
 side_in-some : (w : List ℕ) (s : Side) → side_in w ≡ Some s → side_word s ≡ w
 unfolding side_in
 side_in-some w s h = elim (chosen_side (bytes_eq w (codes "A")) (bytes_eq w (codes "B")) s h) [
-    | inl p ↦ rw (← p.1) (sym (same_from_bytes_eq w (codes "A") p.0))
-    | inr p ↦ rw (← p.1) (sym (same_from_bytes_eq w (codes "B") p.0))
-  ]
+  | inl p ↦ rw (← p.1) (sym (same_from_bytes_eq w (codes "A") p.0))
+  | inr p ↦ rw (← p.1) (sym (same_from_bytes_eq w (codes "B") p.0))
+]
 
 is_number-below : (n : ℕ) → n < 2 ^ 32 → is_number n ≡ true
 is_number-below n h = grind (arith, nat_tests)
@@ -198,12 +196,12 @@ name_in-some w n h = name_parts w n (bytes_eq w hyphen) refl h
 count_in-some : (w : List ℕ) (n : ℕ) → count_in w ≡ Some n → (count_word n ≡ w) × ((is_number n || eqb n everything) ≡ true)
 unfolding count_in
 count_in-some w n h = elim (chosen (bytes_eq w (codes "all")) everything (number_in w) n h) [
-    | inl p ↦ rw (← p.1) (sym (same_from_bytes_eq w (codes "all") p.0), refl)
-    | inr g ↦
-        let number = number_in-some w n g in
-        let other : eqb n everything ≡ false = grind (arith, nat_tests) in
-        (rw other number.1, rw (is_number-below n number.0) refl)
-  ]
+  | inl p ↦ rw (← p.1) (sym (same_from_bytes_eq w (codes "all") p.0), refl)
+  | inr g ↦
+      let number = number_in-some w n g in
+      let other : eqb n everything ≡ false = grind (arith, nat_tests) in
+      (rw other number.1, rw (is_number-below n number.0) refl)
+]
 
 test_from_bytes : (bs : List ℕ) → IsBytes bs → list_all is_byte bs ≡ true
 test_from_bytes [] h = refl

@@ -33,6 +33,7 @@ abbrev pub version_from : List TextLine → Found
 version_from [] = breaks 2 reason.BadHead
 version_from (line ∷ lines) = behind 2 (on_ok (text_in line) version_in) (λ v. steps_from v [] 3 lines)
 
+-- all lines
 abbrev pub script_from : List TextLine → Found
 script_from [] = breaks 1 reason.BadHead
 script_from (line ∷ lines) = behind 1 (on_ok (text_in line) format_in) (λ _. version_from lines)

@@ -17,6 +17,7 @@ abbrev pub side_word : Side → List ℕ
 side_word A = codes "A"
 side_word B = codes "B"
 
+-- the other side
 abbrev pub peer_of : Side → Side
 peer_of A = B
 peer_of B = A
@@ -34,11 +35,12 @@ channel_word side key = side_word (offering_side side key.own) ++ decimal key.id
 abbrev pub hyphen : List ℕ
 hyphen = codes "-"
 
+-- a name, and the hyphen for the empty one
 abbrev pub name_word : List ℕ → List ℕ
 name_word [] = hyphen
 name_word (b ∷ bs) = b ∷ bs
 
--- two hex digits in lower case for each byte
+-- two hex digits in lower case for each byte, and the hyphen for none
 abbrev pub bytes_word : List ℕ → List ℕ
 bytes_word [] = hyphen
 bytes_word (b ∷ bs) = encode_lower (b ∷ bs)
@@ -47,6 +49,7 @@ bytes_word (b ∷ bs) = encode_lower (b ∷ bs)
 abbrev pub everything : ℕ
 everything = 2 ^ 64 - 1
 
+-- a count of a delivery
 abbrev pub count_word : ℕ → List ℕ
 count_word count = if count == everything then codes "all" else decimal count
 
@@ -93,6 +96,7 @@ is_number n = nat_lt n (2 ^ 32)
 abbrev pub stands_in_word : ℕ → Bool
 stands_in_word b = not (b == 32 || b == 10)
 
+-- no line feed
 abbrev pub stands_in_line : ℕ → Bool
 stands_in_line b = not (b == 10)
 
@@ -104,6 +108,7 @@ is_line_text text = is_utf8 text && list_all stands_in_line text
 abbrev pub is_name : List ℕ → Bool
 is_name name = is_utf8 name && list_all stands_in_word name && not (bytes_eq name hyphen)
 
+-- a byte's value
 abbrev pub is_byte : ℕ → Bool
 is_byte b = nat_lt b 256
 

@@ -1,5 +1,5 @@
 -- What a line of a script stands for.
-use Rattle.std.specs.Prelude.{ℕ, nat_lt, List, [], ◌∷◌, Bool, true, false, not, ◌&&◌, ◌||◌, Option, Some, None, Result, Ok, Err, if◌then◌else◌, codes}
+use Rattle.std.specs.Prelude.{ℕ, nat_lt, List, [], ◌∷◌, Bool, false, not, ◌&&◌, ◌||◌, Option, Some, None, Result, Ok, Err, if◌then◌else◌, codes}
 use Rattle.std.specs.Option.{ok_or}
 use Rattle.std.specs.List.{list_any}
 use Rattle.std.specs.Str.{is_utf8, bytes_eq}
@@ -43,7 +43,7 @@ step_word_in text =
     else if list_any (bytes_eq text) later_words then Some word.Later
     else None
 
--- a step from the words after its step word
+-- an offer from the words after its step word
 unfoldable pub offer_in : List (List ℕ) → Option Step
 offer_in (side ∷ name ∷ window ∷ []) = do
   s ← side_in side
@@ -52,6 +52,7 @@ offer_in (side ∷ name ∷ window ∷ []) = do
   Some (step.Call s (call.Offer n w))
 offer_in words = None
 
+-- an acceptance from the words after its step word
 unfoldable pub accept_in : List (List ℕ) → Option Step
 accept_in (side ∷ channel ∷ window ∷ []) = do
   s ← side_in side
@@ -60,6 +61,7 @@ accept_in (side ∷ channel ∷ window ∷ []) = do
   Some (step.Call s (call.Accept c w))
 accept_in words = None
 
+-- a write from the words after its step word
 unfoldable pub write_in : List (List ℕ) → Option Step
 write_in (side ∷ channel ∷ bytes ∷ []) = do
   s ← side_in side
@@ -68,6 +70,7 @@ write_in (side ∷ channel ∷ bytes ∷ []) = do
   Some (step.Call s (call.Write c b))
 write_in words = None
 
+-- a read from the words after its step word
 unfoldable pub read_in : List (List ℕ) → Option Step
 read_in (side ∷ channel ∷ max ∷ []) = do
   s ← side_in side
@@ -76,6 +79,7 @@ read_in (side ∷ channel ∷ max ∷ []) = do
   Some (step.Call s (call.Read c m))
 read_in words = None
 
+-- a delivery from the words after its step word
 unfoldable pub deliver_in : List (List ℕ) → Option Step
 deliver_in (side ∷ count ∷ []) = do
   s ← side_in side
@@ -93,6 +97,7 @@ step_by (Some word.Write) words = ok_or (write_in words) reason.BadWord
 step_by (Some word.Read) words = ok_or (read_in words) reason.BadWord
 step_by (Some word.Deliver) words = ok_or (deliver_in words) reason.BadWord
 
+-- the step that a line's words are, or why they are none
 unfoldable pub step_in : List (List ℕ) → Result Step ScriptReason
 step_in [] = Err reason.UnknownStep
 step_in (first ∷ words) = step_by (step_word_in first) words
@@ -115,9 +120,11 @@ unfoldable pub step_after : ℕ → Bool → TextLine → Result Step ScriptReas
 step_after count offered line = on_ok (text_in line) (λ text.
     if nat_lt count most_steps then on_ok (step_in (words_of text)) (admitted offered) else Err reason.TooManySteps)
 
+-- the first line
 unfoldable pub format_in : List ℕ → Result (Unit {0}) ScriptReason
 format_in text = if bytes_eq text (codes "script 1") then Ok tt else Err reason.BadHead
 
+-- the second line
 unfoldable pub version_in : List ℕ → Result Version ScriptReason
 version_in text =
     if bytes_eq text (codes "version 3") then Ok version.Three

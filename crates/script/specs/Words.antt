@@ -1,5 +1,5 @@
 -- What a word of a script stands for.
-use Rattle.std.specs.Prelude.{ℕ, ◌^◌, nat_lt, nat_le, ◌==◌, List, [], ◌∷◌, Bool, true, false, ◌||◌, ◌&&◌, length, slice_index, Option, Some, None, option_and_then, if◌then◌else◌, codes, decimal}
+use Rattle.std.specs.Prelude.{ℕ, nat_lt, nat_le, ◌==◌, List, [], ◌∷◌, Bool, true, false, ◌||◌, ◌&&◌, length, slice_index, Option, Some, None, option_and_then, if◌then◌else◌, codes, decimal}
 use Rattle.std.specs.List.{slice_split}
 use Rattle.std.specs.Result.{result_ok}
 use Rattle.std.specs.Str.{bytes_eq}
@@ -10,6 +10,7 @@ use Rattle.mux_run.specs.declared.steps.Side.{Side}
 use Rattle.mux_run.specs.declared.steps.Side.TheVariants.{A, B}
 use Rattle.script.specs.Spelling.{is_number, hyphen, bytes_word, everything}
 
+-- what the next part makes of the value, where there is one
 infixl 10 ◌>>=◌
 abbrev pub ◌>>=◌ : {A B : Type 0} → Option A → (A → Option B) → Option B
 o >>= f = option_and_then f o
@@ -22,6 +23,7 @@ words_of line = slice_split (λ b. b == 32) line
 abbrev pub if_written : {X : Type 0} → (X → List ℕ) → List ℕ → X → Option X
 if_written written word x = if bytes_eq (written x) word then Some x else None
 
+-- the side whose letter the word is
 unfoldable pub side_in : List ℕ → Option Side
 side_in word = if bytes_eq word (codes "A") then Some A else if bytes_eq word (codes "B") then Some B else None
 
@@ -52,6 +54,7 @@ channel_in side word = do
   id ← number_in front.1
   Some (record { id = id; own = is_same_side front.0 side })
 
+-- any word but the hyphen is itself a name
 unfoldable pub name_in : List ℕ → Option (List ℕ)
 name_in word = if bytes_eq word hyphen then Some [] else if bytes_eq word [] then None else Some word
 
@@ -59,9 +62,10 @@ name_in word = if bytes_eq word hyphen then Some [] else if bytes_eq word [] the
 unfoldable pub bytes_in : List ℕ → Option (List ℕ)
 bytes_in word = if bytes_eq word hyphen then Some [] else (result_ok (decode_of word) >>= if_written bytes_word word)
 
--- a letter that no hex word has
+-- a capital letter, which stands in no hex word
 abbrev pub is_capital : ℕ → Bool
 is_capital b = nat_le 65 b && nat_le b 90
 
+-- a number, or the greatest count of its type
 unfoldable pub count_in : List ℕ → Option ℕ
 count_in word = if bytes_eq word (codes "all") then Some everything else number_in word

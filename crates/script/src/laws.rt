@@ -21,12 +21,10 @@ pub fn scripts_are_their_texts()
         → script_in (script_text steps ++ rest) ≡ steps_from version.Three steps (length steps + 3) (lines_of rest) }
     ensures broken { (bytes : List ℕ) (number : ℕ) (fault : ScriptReason) → script_in bytes ≡ breaks number fault → 3 ≤ number
         → (steps : List Step) × (line : TextLine) × (later : List TextLine) × BreaksBehind bytes number fault steps line later }
-{
-}
+{}
 
 /// A line has a bad word exactly if its step word is built and it is the text of no step.
 pub fn bad_words_are_of_no_step()
     ensures { (text : List ℕ) → is_line_text text ≡ true → (step_in (words_of text) ≡ Err reason.BadWord)
         ↔ ((begins_built (words_of text) ≡ true) × ((s : Step) → is_spellable s ≡ true → step_text s ≢ text)) }
-{
-}
+{}

@@ -14,3 +14,6 @@ pub use fault::ScriptFault;
 pub use laws::{bad_words_are_of_no_step, scripts_are_their_texts};
 pub use reading::{Script, read_script};
 pub use reason::ScriptReason;
+
+#[cfg(test)]
+mod tests;

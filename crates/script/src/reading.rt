@@ -12,8 +12,7 @@ ghost use Rattle.script.specs.Steps.{on_ok, text_in, admitted, step_after, forma
 use crate::fault::{LineFault, ScriptFault};
 use crate::lines::{Line, next_line};
 use crate::reason::ScriptReason;
-use crate::steps;
-use crate::words;
+use crate::{steps, words};
 use mux_run::{Call, Side, Step, StepList};
 use std::alloc::Global;
 use std::str;

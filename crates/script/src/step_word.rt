@@ -24,9 +24,26 @@ pub fn step_word(word: &str) -> Option<StepWord>
         "write" => Some(StepWord::Write),
         "read" => Some(StepWord::Read),
         "deliver" => Some(StepWord::Deliver),
-        "complete" | "terminate" | "fill" | "attach" | "request" | "notify" | "result" | "object"
-        | "sequence" | "fault" | "cancel" | "report" | "reports" | "next" | "abort" | "invoke"
-        | "release" | "outcome" | "forget" | "end" => Some(StepWord::Later),
+        "complete"
+        | "terminate"
+        | "fill"
+        | "attach"
+        | "request"
+        | "notify"
+        | "result"
+        | "object"
+        | "sequence"
+        | "fault"
+        | "cancel"
+        | "report"
+        | "reports"
+        | "next"
+        | "abort"
+        | "invoke"
+        | "release"
+        | "outcome"
+        | "forget"
+        | "end" => Some(StepWord::Later),
         _ => None,
     }
 }

@@ -1,7 +1,6 @@
-use Rattle.std.proofs.Common.{◌≡◌, ◌<◌, ◌+◌, ◌-◌, false, nat_eq, length, take, drop, arith, sym, ◌∙◌, refl, ap}
+use Rattle.std.proofs.Common.{◌<◌, ◌+◌, length, arith, sym, ◌∙◌}
 use Rattle.std.proofs.lemmas.List.{take_rest}
 use Rattle.std.proofs.lemmas.Bool.Decides.{nat_tests}
-use Rattle.script.specs.Lines.{lines_of}
 use Rattle.script.proofs.LineLemmas.{lines_of-ended, lines_of-open, lines_of_end}
 use Rattle.script.proofs.lines.next_line.Goals as goal
 

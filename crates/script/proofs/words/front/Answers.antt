@@ -1,5 +1,4 @@
-use Rattle.std.proofs.Common.{lit<, sym, ap, ◌∙◌}
-use Rattle.std.specs.Option.{option_map}
+use Rattle.std.proofs.Common.{lit<, sym}
 use Rattle.std.proofs.lemmas.Str.Pattern.{strip_prefix_char}
 use Rattle.script.proofs.FrontLemmas.{front_in-a, front_in-b, front_in-none}
 use Rattle.script.proofs.words.front.Goals as goal

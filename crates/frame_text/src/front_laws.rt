@@ -2,14 +2,16 @@
 
 ghost use Rattle.frame_text.specs.Codec.{is_packed};
 ghost use Rattle.frame_text.specs.Front.{Broken, Short, Whole};
+ghost use Rattle.frame_text.specs.Frames.{fits, text};
 ghost use Rattle.frame_text.specs.Reading.{front};
-ghost use Rattle.std.specs.Prelude.{◌≡◌, ◌<◌, ◌≤◌, ◌++◌, ℕ, List, length, true};
+ghost use Rattle.frame_text.specs.Spelling.{AreBytes, FrameIs};
+ghost use Rattle.std.specs.Prelude.{◌≡◌, ◌<◌, ◌≤◌, ◌++◌, ℕ, List, [], length, take, true};
 ghost use Rattle.wire_base.specs.declared.frame.Frame.{Frame};
 ghost use Rattle.wire_base.specs.declared.frame.Version.{Version};
 ghost use Rattle.wire_base.specs.declared.reason.Reason.{Reason};
 
 /// A frame takes a byte at least, and stands within the bytes; so does what breaks a rule.
-#[tactic(auto, using(crate::proofs::Within::withins))]
+#[tactic(auto, using(crate::proofs::Laws::withins))]
 pub fn front_stands_within()
     ensures front_within { (v : Version) (bytes : List ℕ) (f : Frame) (size : ℕ) →
         front v bytes ≡ Whole f size → (0 < size) × (size ≤ length bytes) }
@@ -22,7 +24,7 @@ pub fn front_stands_within()
 {}
 
 /// What stands at the front stays so, whatever follows. Less than a whole frame is the beginning of one.
-#[tactic(auto, using(crate::proofs::Steady::stays))]
+#[tactic(auto, using(crate::proofs::Laws::stays))]
 pub fn front_is_steady()
     ensures front_stays { (v : Version) (bytes more : List ℕ) (f : Frame) (size : ℕ) →
         front v bytes ≡ Whole f size → front v (bytes ++ more) ≡ Whole f size }
@@ -30,4 +32,27 @@ pub fn front_is_steady()
         front v bytes ≡ Broken offset reason → front v (bytes ++ more) ≡ Broken offset reason }
     ensures front_cut { (v : Version) (a b : List ℕ) (f : Frame) (size : ℕ) →
         front v (a ++ b) ≡ Whole f size → length a < size → front v a ≡ Short }
+{}
+
+/// What is read is what is spelled, and the text is a spelling.
+#[tactic(auto, using(crate::proofs::Laws::spellings))]
+pub fn front_is_spelled()
+    ensures front_spelled { (v : Version) (bytes : List ℕ) (f : Frame) (size : ℕ) →
+        front v bytes ≡ Whole f size → FrameIs v f (take size bytes) }
+    ensures spelled_front { (v : Version) (f : Frame) (b rest : List ℕ) →
+        FrameIs v f b → front v (b ++ rest) ≡ Whole f (length b) }
+    ensures front_text { (v : Version) (f : Frame) (rest : List ℕ) → fits v f ≡ true →
+        front v (text v f ++ rest) ≡ Whole f (length (text v f)) }
+    ensures shortest { (v : Version) (f : Frame) (b : List ℕ) → AreBytes b →
+        FrameIs v f b → length (text v f) ≤ length b }
+    // A spelling that begins another is that one, of the same frame.
+    ensures one_spelling { (v : Version) (f g : Frame) (b more : List ℕ) →
+        FrameIs v f b → FrameIs v g (b ++ more) → (f ≡ g) × (more ≡ []) }
+{}
+
+/// What is read of bytes fits.
+#[tactic(auto, using(crate::proofs::Laws::every_front_fits))]
+pub fn front_has_text()
+    ensures { (v : Version) (bytes : List ℕ) (f : Frame) (size : ℕ) → AreBytes bytes →
+        front v bytes ≡ Whole f size → fits v f ≡ true }
 {}

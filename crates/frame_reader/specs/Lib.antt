@@ -1,0 +1,4 @@
+pub mod Unread
+pub mod Holds
+pub mod Answers
+pub mod Reads

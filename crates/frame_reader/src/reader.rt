@@ -1,0 +1,137 @@
+//! A reader of frames from a stream that comes in pieces.
+
+ghost use Rattle.frame_reader.specs.Answers.{Answers, RefusesAt};
+ghost use Rattle.frame_reader.specs.Reads.{Follows, Reads, given_with};
+ghost use Rattle.frame_reader.specs.Unread.{with_piece, without_front};
+ghost use Rattle.std.specs.Prelude.{◌≡◌, ◌+◌, ◌<◌, ◌≤◌, ◌^◌, ◌++◌, ◌⊎◌, ℕ, List, [], length, OnErr, OnOk};
+ghost use Rattle.wire_base.specs.declared.frame.Frame.{Frame};
+ghost use Rattle.wire_base.specs.declared.place.Place.{Place};
+ghost use Rattle.wire_base.specs.declared.reason.Reason.{Reason};
+
+use crate::next::Next;
+use frame_text::FrameCodec;
+use std::alloc::Global;
+use std::marker::Model;
+use wire_base::{FrameStep, OutOfMemory, Place};
+
+/// Reads the frames of a stream that comes in pieces, seen by contracts as what it has not given yet.
+#[derive(Drop)]
+pub struct FrameReader<C: FrameCodec> {
+    alloc: Global,
+    codec: C,
+    bytes: Vec<u8>,
+    /// So many of the bytes were given.
+    given: usize,
+    /// The place of the byte after those.
+    at: Place,
+    fed: u64,
+}
+
+impl<C: FrameCodec> Model for FrameReader<C> {
+    ghost use Rattle.frame_reader.specs.Holds.{Holds};
+    ghost use Rattle.frame_reader.specs.Unread.{Unread};
+    ghost use Rattle.std.specs.Prelude.{drop};
+
+    ghost Value = { Unread };
+
+    ghost view = { λ r. record { version = C.version r.codec; at = r.at.0; rest = drop r.given r.bytes.items; fed = r.fed } };
+
+    ghost invariant = { λ r. Holds r.bytes.items r.given r.at.0 r.fed };
+}
+
+impl<C: FrameCodec> FrameReader<C> {
+    /// A reader of a stream whose first byte stands at `start`. Takes no memory.
+    pub fn new(alloc: Global, codec: C, start: Place) -> FrameReader<C>
+        requires { start.0 ≤ 2 ^ 62 }
+        ensures empty { result ≡ record { version = C.version codec; at = start.0; rest = []; fed = 0 } }
+        ensures reads { Reads result start.0 [] [] }
+    {
+        FrameReader {
+            alloc,
+            codec,
+            bytes: Vec::new(alloc),
+            given: 0,
+            at: start,
+            fed: 0,
+        }
+    }
+
+    /// Takes the next piece of the stream.
+    pub fn feed(&mut self, piece: &[u8]) -> Result<(), OutOfMemory>
+        requires { self.old.fed + length piece.now ≤ 2 ^ 62 }
+        ensures ok { OnOk result (self.new ≡ with_piece piece.now self.old) }
+        ensures err { OnErr result (self.new ≡ self.old) }
+        ensures reads { (start : ℕ) (stream : List ℕ) (given : List (ℕ × Frame)) → Reads self.old start stream given →
+            OnOk result (Reads self.new start (stream ++ piece.now) given) }
+        // What is refused stays so.
+        ensures refuses { (place : Place) (reason : Reason) → RefusesAt self.old place reason → RefusesAt self.new place reason }
+    {
+        self.bytes.extend_from_slice(piece)?;
+        self.fed += piece.len() as u64;
+        Ok(())
+    }
+
+    /// The next frame of all bytes fed.
+    #[tactic(auto, using(crate::proofs::Streams::answers))]
+    pub fn next(&mut self) -> Next
+        ensures answer { Answers result self.old self.new }
+        ensures refuses { (place : Place) (reason : Reason) → RefusesAt self.old place reason →
+            (result ≡ Next.Refused place reason) ⊎ (result ≡ Next.OutOfMemory) }
+        ensures shorter { (place : Place) (frame : Frame) → result ≡ Next.Frame place frame →
+            length self.new.rest < length self.old.rest }
+        // The answer is what the whole stream says, whatever pieces it came in.
+        ensures follows { (start : ℕ) (stream : List ℕ) (given : List (ℕ × Frame)) → Reads self.old start stream given →
+            Follows self.old.version start stream given result }
+        ensures reads { (start : ℕ) (stream : List ℕ) (given : List (ℕ × Frame)) → Reads self.old start stream given →
+            Reads self.new start stream (given_with result given) }
+    {
+        // A frame that isn't whole is looked at again from its first byte, which costs its heads: a payload is copied once it is whole.
+        match self
+            .codec
+            .decode(self.alloc, &self.bytes[self.given..], self.at)
+        {
+            FrameStep::Got(frame, size) => {
+                let place = self.at;
+                self.give(size);
+                Next::Frame(place, frame)
+            }
+            FrameStep::Short => Next::Short,
+            FrameStep::Refused(place, reason) => Next::Refused(place, reason),
+            FrameStep::OutOfMemory => Next::OutOfMemory,
+        }
+    }
+
+    /// How many bytes were fed and are not part of a frame that was given.
+    pub fn left(&self) -> usize
+        ensures { result ≡ length self.now.rest }
+    {
+        self.bytes.len() - self.given
+    }
+
+    /// How many bytes were fed.
+    pub fn fed(&self) -> u64
+        ensures { result ≡ self.now.fed }
+    {
+        self.fed
+    }
+
+    /// So many more bytes are given.
+    fn give(&mut self, size: usize)
+        requires { size ≤ length self.old.rest }
+        ensures { self.new ≡ without_front size self.old }
+    {
+        self.given += size;
+        self.at = Place(self.at.0 + size as u64);
+        self.forget_given();
+    }
+
+    /// Lets the given bytes go once they are half of all, so that no more bytes are moved than were given.
+    fn forget_given(&mut self)
+        ensures { self.new ≡ self.old }
+    {
+        if self.given >= self.left() {
+            self.bytes.drain(..self.given);
+            self.given = 0;
+        }
+    }
+}

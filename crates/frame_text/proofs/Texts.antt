@@ -1,0 +1,285 @@
+-- The shortest spelling of a frame is a spelling.
+use Rattle.std.proofs.Common.{◌≡◌, ℕ, ◌+◌, ◌^◌, ◌≤◌, ◌<◌, Bool, true, false, cond, List, [], ◌∷◌, ◌++◌, length, Option, Some, None, refl, sym, ap, ◌∙◌, arith, length-append, append_assoc, inl, inr}
+use Rattle.std.specs.Prelude.{◌&&◌, nat_lt, pos}
+use Rattle.std.specs.Int.{w16, w32, w64, to_be_bytes}
+use Rattle.std.specs.Str.{is_utf8}
+use Rattle.std.proofs.lemmas.Nat.{from_be_bytes-to_be_bytes_2, from_be_bytes-to_be_bytes_4, from_be_bytes-to_be_bytes_8}
+use Rattle.std.proofs.lemmas.Bool.{cases_lt, le-ltb, lt-ltb, ltb-true, leb-true, and_parts}
+use Rattle.std.proofs.lemmas.List.{append-nil}
+use Rattle.wire_base.specs.Head.{head_of, lettered}
+use Rattle.wire_base.specs.declared.token.TokenHead.TheVariants as token
+use Rattle.wire_base.specs.declared.token.HeadStep.TheVariants.{Got}
+use Rattle.wire_base.specs.declared.frame.Version.{Version}
+use Rattle.wire_base.specs.declared.frame.Version.TheVariants as version
+use Rattle.wire_base.specs.declared.frame.Code.{Code}
+use Rattle.wire_base.specs.declared.frame.Code.TheVariants as code
+use Rattle.wire_base.specs.declared.frame.Origin.{Origin}
+use Rattle.wire_base.specs.declared.frame.Origin.TheVariants as origin
+use Rattle.wire_base.specs.declared.frame.Payload.{Payload}
+use Rattle.wire_base.specs.declared.frame.Payload.TheVariants as payload
+use Rattle.wire_base.specs.declared.frame.Frame.{Frame}
+use Rattle.frame_text.specs.Codec.{is_packed, elements}
+use Rattle.frame_text.specs.Heads.{unsigned_text, str_head, bin_head, array_head}
+use Rattle.frame_text.specs.Frames.{code_number, origin_text, str_text, payload_text, payload_element, is_empty, is_count, fits_code, fits_id, fits_origin, fits_length, fits, text}
+use Rattle.frame_text.specs.Front.{Whole}
+use Rattle.frame_text.specs.Reading.{front}
+use Rattle.frame_text.specs.Spelling.{IsHead, IsNumber, IsOptional, with_optional, IsName, Carries, IsSource, PackedFrameIs, FrameIs}
+use Rattle.frame_text.proofs.Again.{spelled_front}
+
+-- ---- heads
+
+small_number : (n : ℕ) → n < 0x80 → head_of (n ∷ []) ≡ Got (token.Whole (pos n)) 1
+small_number n lt = rw (lt-ltb n 0x80 lt) refl
+
+number_1 : (n : ℕ) → head_of (0xcc ∷ n ∷ []) ≡ Got (token.Whole (pos n)) 2
+unfolding lettered
+number_1 n = refl
+
+number_2 : (n : ℕ) → n < 2 ^ 16 → head_of (0xcd ∷ to_be_bytes w16 n) ≡ Got (token.Whole (pos n)) 3
+unfolding lettered
+number_2 n lt = ap (λ m. Got (token.Whole (pos m)) 3) (from_be_bytes-to_be_bytes_2 n lt)
+
+number_4 : (n : ℕ) → n < 2 ^ 32 → head_of (0xce ∷ to_be_bytes w32 n) ≡ Got (token.Whole (pos n)) 5
+unfolding lettered
+number_4 n lt = ap (λ m. Got (token.Whole (pos m)) 5) (from_be_bytes-to_be_bytes_4 n lt)
+
+number_8 : (n : ℕ) → n < 2 ^ 64 → head_of (0xcf ∷ to_be_bytes w64 n) ≡ Got (token.Whole (pos n)) 9
+unfolding lettered
+number_8 n lt = ap (λ m. Got (token.Whole (pos m)) 9) (from_be_bytes-to_be_bytes_8 n lt)
+
+pub is_number-text : (n : ℕ) → n < 2 ^ 64 → IsNumber (pos n) (unsigned_text n)
+is_number-text n lt = elim (cases_lt n 0x80) [
+  | inl a ↦ rw (lt-ltb n 0x80 a) (small_number n a)
+  | inr a ↦ elim (cases_lt n 0x100) [
+    | inl b ↦ rw (le-ltb n 0x80 a, lt-ltb n 0x100 b) (number_1 n)
+    | inr b ↦ elim (cases_lt n 0x10000) [
+      | inl c ↦ rw (le-ltb n 0x80 a, le-ltb n 0x100 b, lt-ltb n 0x10000 c) (number_2 n c)
+      | inr c ↦ elim (cases_lt n 0x100000000) [
+        | inl d ↦ rw (le-ltb n 0x80 a, le-ltb n 0x100 b, le-ltb n 0x10000 c, lt-ltb n 0x100000000 d) (number_4 n d)
+        | inr d ↦ rw (le-ltb n 0x80 a, le-ltb n 0x100 b, le-ltb n 0x10000 c, le-ltb n 0x100000000 d) (number_8 n lt)
+      ]
+    ]
+  ]
+]
+
+small_str : (n : ℕ) → n < 0x20 → head_of ((0xa0 + n) ∷ []) ≡ Got (token.Str n) 1
+small_str n lt = grind (arith, le-ltb, lt-ltb)
+
+str_1 : (n : ℕ) → head_of (0xd9 ∷ n ∷ []) ≡ Got (token.Str n) 2
+unfolding lettered
+str_1 n = refl
+
+str_2 : (n : ℕ) → n < 2 ^ 16 → head_of (0xda ∷ to_be_bytes w16 n) ≡ Got (token.Str n) 3
+unfolding lettered
+str_2 n lt = ap (λ m. Got (token.Str m) 3) (from_be_bytes-to_be_bytes_2 n lt)
+
+str_4 : (n : ℕ) → n < 2 ^ 32 → head_of (0xdb ∷ to_be_bytes w32 n) ≡ Got (token.Str n) 5
+unfolding lettered
+str_4 n lt = ap (λ m. Got (token.Str m) 5) (from_be_bytes-to_be_bytes_4 n lt)
+
+pub is_str-head : (n : ℕ) → n < 2 ^ 32 → IsHead (token.Str n) (str_head n)
+is_str-head n lt = elim (cases_lt n 0x20) [
+  | inl a ↦ rw (lt-ltb n 0x20 a) (small_str n a)
+  | inr a ↦ elim (cases_lt n 0x100) [
+    | inl b ↦ rw (le-ltb n 0x20 a, lt-ltb n 0x100 b) (str_1 n)
+    | inr b ↦ elim (cases_lt n 0x10000) [
+      | inl c ↦ rw (le-ltb n 0x20 a, le-ltb n 0x100 b, lt-ltb n 0x10000 c) (str_2 n c)
+      | inr c ↦ rw (le-ltb n 0x20 a, le-ltb n 0x100 b, le-ltb n 0x10000 c) (str_4 n lt)
+    ]
+  ]
+]
+
+bin_1 : (n : ℕ) → head_of (0xc4 ∷ n ∷ []) ≡ Got (token.Bin n) 2
+unfolding lettered
+bin_1 n = refl
+
+bin_2 : (n : ℕ) → n < 2 ^ 16 → head_of (0xc5 ∷ to_be_bytes w16 n) ≡ Got (token.Bin n) 3
+unfolding lettered
+bin_2 n lt = ap (λ m. Got (token.Bin m) 3) (from_be_bytes-to_be_bytes_2 n lt)
+
+bin_4 : (n : ℕ) → n < 2 ^ 32 → head_of (0xc6 ∷ to_be_bytes w32 n) ≡ Got (token.Bin n) 5
+unfolding lettered
+bin_4 n lt = ap (λ m. Got (token.Bin m) 5) (from_be_bytes-to_be_bytes_4 n lt)
+
+pub is_bin-head : (n : ℕ) → n < 2 ^ 32 → IsHead (token.Bin n) (bin_head n)
+is_bin-head n lt = elim (cases_lt n 0x100) [
+  | inl b ↦ rw (lt-ltb n 0x100 b) (bin_1 n)
+  | inr b ↦ elim (cases_lt n 0x10000) [
+    | inl c ↦ rw (le-ltb n 0x100 b, lt-ltb n 0x10000 c) (bin_2 n c)
+    | inr c ↦ rw (le-ltb n 0x100 b, le-ltb n 0x10000 c) (bin_4 n lt)
+  ]
+]
+
+-- ---- payloads
+
+abbrev pub optional_text : Option ℕ → List ℕ
+optional_text None = []
+optional_text (Some n) = unsigned_text n
+
+is_optional-text : (window : Option ℕ) → is_count window ≡ true → IsOptional window (optional_text window)
+is_optional-text None fit = refl
+is_optional-text (Some n) fit =
+    let below : n < 0x8000000000000000 = ltb-true n 0x8000000000000000 fit in
+    (is_number-text n (omega (arith, below)), below)
+
+is_name-text : (name : List ℕ) → is_utf8 name ≡ true → length name < 2 ^ 32 → IsName name (str_text name)
+is_name-text name utf8 lt = record { head = str_head (length name); is_head = is_str-head (length name) lt; utf8 = utf8; parts = refl }
+
+pub offer-text : (name : List ℕ) (window : Option ℕ) → payload_text (payload.Offer name window) ≡ array_head (with_optional 1 window) ++ (str_text name ++ optional_text window)
+offer-text name None = ap (λ (s : List ℕ). array_head 1 ++ s) (sym (append-nil (str_text name)))
+offer-text name (Some n) = append_assoc (array_head 2) (str_text name) (unsigned_text n)
+
+offer_array : (window : Option ℕ) → IsHead (token.Array (with_optional 1 window)) (array_head (with_optional 1 window))
+offer_array None = refl
+offer_array (Some n) = refl
+
+pub accepted-text : (window : Option ℕ) → payload_text (payload.Accepted window) ≡ array_head (with_optional 0 window) ++ optional_text window
+accepted-text None = refl
+accepted-text (Some n) = refl
+
+accepted_array : (window : Option ℕ) → IsHead (token.Array (with_optional 0 window)) (array_head (with_optional 0 window))
+accepted_array None = refl
+accepted_array (Some n) = refl
+
+name-fits : (name : List ℕ) (window : Option ℕ) → length (payload_text (payload.Offer name window)) ≤ 0x100000 → length name < 2 ^ 32
+name-fits name window h =
+    let p : length (payload_text (payload.Offer name window)) ≡ length (array_head (with_optional 1 window)) + (length (str_head (length name)) + length name + length (optional_text window)) =
+    ap length (offer-text name window) ∙ simp length-append in
+    omega (arith, p)
+
+carries-text : (c : Code) (p : Payload) → fits_code version.Two c p ≡ true → length (payload_text p) ≤ 0x100000 → Carries c p (payload_text p)
+carries-text code.Offer (payload.Offer name window) fit h =
+    let both = and_parts (is_utf8 name) (is_count window) fit in
+    record {
+      array = array_head (with_optional 1 window);
+      first = str_text name;
+      second = optional_text window;
+      is_array = offer_array window;
+      is_name = is_name-text name both.0 (name-fits name window h);
+      is_window = is_optional-text window both.1;
+      parts = offer-text name window;
+    }
+carries-text code.OfferAccepted (payload.Accepted window) fit h =
+    record { array = array_head (with_optional 0 window); first = optional_text window; is_array = accepted_array window; is_window = is_optional-text window fit; parts = accepted-text window }
+carries-text code.Content (payload.Content bytes) fit h = refl
+carries-text code.ContentWritingCompleted payload.Nothing fit h = tt
+carries-text code.ChannelTerminated payload.Nothing fit h = tt
+carries-text code.ContentProcessed (payload.Processed count) fit h =
+    record { array = array_head 1; first = unsigned_text count; is_array = refl; is_count = is_optional-text (Some count) fit; parts = refl }
+carries-text c p fit h = absurd cc
+
+-- ---- frames
+
+is_code-text : (c : Code) → IsNumber (pos (code_number c)) (unsigned_text (code_number c))
+is_code-text code.Offer = refl
+is_code-text code.OfferAccepted = refl
+is_code-text code.Content = refl
+is_code-text code.ContentWritingCompleted = refl
+is_code-text code.ChannelTerminated = refl
+is_code-text code.ContentProcessed = refl
+
+is_source-text : (v : Version) (o : Origin) → is_packed v ≡ true → fits_origin v o ≡ true → IsSource v o (origin_text o)
+is_source-text version.One o p fit = absurd cc
+is_source-text version.Two origin.Sender p fit = absurd cc
+is_source-text version.Two origin.Receiver p fit = absurd cc
+is_source-text version.Two origin.ByParity p fit = refl
+is_source-text version.Three origin.Sender p fit = refl
+is_source-text version.Three origin.Receiver p fit = refl
+is_source-text version.Three origin.ByParity p fit = absurd cc
+
+is_array-text : (v : Version) (has : Bool) → IsHead (token.Array (cond has (elements v + 1) (elements v))) (array_head (cond has (elements v + 1) (elements v)))
+is_array-text version.One false = refl
+is_array-text version.One true = refl
+is_array-text version.Two false = refl
+is_array-text version.Two true = refl
+is_array-text version.Three false = refl
+is_array-text version.Three true = refl
+
+-- the text of a frame with these bytes as its payload
+abbrev pub text_with : Version → Frame → List ℕ → List ℕ
+text_with v f bytes =
+    array_head (cond (is_empty bytes) (elements v) (elements v + 1))
+    ++ unsigned_text (code_number f.code) ++ unsigned_text f.id ++ origin_text f.origin ++ payload_element bytes
+
+text_with-is : (v : Version) (f : Frame) (bytes : List ℕ) → is_packed v ≡ true → 0 < f.id → f.id < 0x8000000000000000 → fits_origin v f.origin ≡ true → length bytes ≤ 0x100000 → Carries f.code f.payload bytes → PackedFrameIs v f (text_with v f bytes)
+text_with-is v f [] p some below source most carries = record {
+  has_payload = false;
+  array = array_head (elements v);
+  first = unsigned_text (code_number f.code);
+  second = unsigned_text f.id;
+  third = origin_text f.origin;
+  last = [];
+  bytes = [];
+  is_array = is_array-text v false;
+  is_code = is_code-text f.code;
+  is_id = is_number-text f.id (omega (arith, below));
+  some_id = some;
+  id_below = below;
+  is_source = is_source-text v f.origin p source;
+  is_payload = (refl, refl);
+  carries = carries;
+  parts = simp append_assoc;
+}
+text_with-is v f (b ∷ bytes) p some below source most carries =
+    let all = b ∷ bytes in
+    record {
+      has_payload = true;
+      array = array_head (elements v + 1);
+      first = unsigned_text (code_number f.code);
+      second = unsigned_text f.id;
+      third = origin_text f.origin;
+      last = bin_head (length all) ++ all;
+      bytes = all;
+      is_array = is_array-text v true;
+      is_code = is_code-text f.code;
+      is_id = is_number-text f.id (omega (arith, below));
+      some_id = some;
+      id_below = below;
+      is_source = is_source-text v f.origin p source;
+      is_payload = record { head = bin_head (length all); is_head = is_bin-head (length all) (omega (arith, most)); most = most; parts = refl };
+      carries = carries;
+      parts = simp append_assoc;
+    }
+
+-- what fits, part by part
+pub record Fitting (v : Version) (f : Frame) : Type 0 where
+  pub code : fits_code version.Two f.code f.payload ≡ true
+  pub some_id : 0 < f.id
+  pub id_below : f.id < 0x8000000000000000
+  pub origin : fits_origin v f.origin ≡ true
+  pub most : length (payload_text f.payload) ≤ 0x100000
+
+fitting-parts : (v : Version) (f : Frame) → (fits_code version.Two f.code f.payload && fits_id version.Two f.id && fits_origin v f.origin && fits_length version.Two f.payload) ≡ true → Fitting v f
+fitting-parts v f e =
+    let c = fits_code version.Two f.code f.payload in
+    let i = fits_id version.Two f.id in
+    let o = fits_origin v f.origin in
+    let a = and_parts (c && i && o) (fits_length version.Two f.payload) e in
+    let b = and_parts (c && i) o a.0 in
+    let d = and_parts c i b.0 in
+    let n = and_parts (nat_lt 0 f.id) (nat_lt f.id 0x8000000000000000) d.1 in
+    record {
+      code = d.0;
+      some_id = ltb-true 0 f.id n.0;
+      id_below = ltb-true f.id 0x8000000000000000 n.1;
+      origin = b.1;
+      most = leb-true (length (payload_text f.payload)) 0x100000 a.1;
+    }
+
+pub fitting : (v : Version) (f : Frame) → is_packed v ≡ true → fits v f ≡ true → Fitting v f
+fitting version.One f p e = absurd cc
+fitting version.Two f p e = fitting-parts version.Two f e
+fitting version.Three f p e = fitting-parts version.Three f e
+
+text-packed : (v : Version) (f : Frame) → is_packed v ≡ true → fits v f ≡ true → PackedFrameIs v f (text_with v f (payload_text f.payload))
+text-packed v f p e =
+    let q = fitting v f p e in
+    text_with-is v f (payload_text f.payload) p q.some_id q.id_below q.origin q.most (carries-text f.code f.payload q.code q.most)
+
+pub text_is : (v : Version) (f : Frame) → is_packed v ≡ true → fits v f ≡ true → FrameIs v f (text v f)
+text_is version.One f p e = absurd cc
+text_is version.Two f p e = text-packed version.Two f p e
+text_is version.Three f p e = text-packed version.Three f p e
+
+pub front-text : (v : Version) (f : Frame) (rest : List ℕ) → is_packed v ≡ true → fits v f ≡ true → front v (text v f ++ rest) ≡ Whole f (length (text v f))
+front-text v f rest p e = spelled_front v f (text v f) rest p (text_is v f p e)

@@ -1,0 +1,167 @@
+//! The frames that an end sends and takes.
+
+ghost use Rattle.frame_text.specs.Codec.{Decodes, is_packed};
+ghost use Rattle.frame_text.specs.Frames.{fits, text};
+ghost use Rattle.frame_text.specs.Reading.{front};
+ghost use Rattle.mux_end.specs.Ranges.{IsStepInRange};
+ghost use Rattle.mux_items.specs.Bodies.{Content, ContentProcessed, Offer, OfferAccepted, frame_on, frame_text, frame_texts, origin_of};
+ghost use Rattle.mux_items.specs.Due.{content_frames};
+ghost use Rattle.std.specs.Prelude.{◌≡◌, ◌≤◌, ◌<◌, ◌++◌, ◌^◌, length, true, OnOk, Some};
+
+use frame_pack::PackCodec;
+use frame_text::FrameCodec;
+use mux_items::ChannelKey;
+use std::alloc::Global;
+use wire_base::{Blob, Code, Frame, FrameStep, Origin, OutOfMemory, Payload, Place, Text, Version};
+
+/// The most bytes of one content frame.
+const PIECE_SIZE: usize = 20_480;
+
+fn origin(version: Version, key: ChannelKey) -> Origin
+    ensures { result ≡ origin_of version key }
+{
+    match version {
+        Version::One | Version::Two => Origin::ByParity,
+        Version::Three => {
+            if key.own {
+                Origin::Sender
+            } else {
+                Origin::Receiver
+            }
+        }
+    }
+}
+
+fn frame(version: Version, key: ChannelKey, code: Code, payload: Payload) -> Frame
+    ensures { result ≡ record { code = code; id = key.id; origin = origin_of version key; payload = payload } }
+{
+    Frame {
+        code,
+        id: key.id,
+        origin: origin(version, key),
+        payload,
+    }
+}
+
+fn push_frame(version: Version, frame: &Frame, out: &mut Vec<u8>) -> Result<(), OutOfMemory>
+    requires packed { is_packed version ≡ true }
+    requires fits { fits version frame.now ≡ true }
+    ensures { OnOk result (out.new.items ≡ out.old.items ++ text version frame.now) }
+{
+    PackCodec::new(version).encode(frame, out)
+}
+
+/// What stands at the front of the bytes, of which the first stands at this place.
+#[tactic(auto, using(crate::proofs::Ranges::ranges))]
+pub fn first_frame(alloc: Global, version: Version, bytes: &[u8], at: Place) -> FrameStep
+    requires packed { is_packed version ≡ true }
+    requires near { at.0 ≤ 2 ^ 63 }
+    ensures front { Decodes result bytes.now at (front version bytes.now) }
+    ensures ranges { IsStepInRange result }
+{
+    PackCodec::new(version).decode(alloc, bytes, at)
+}
+
+/// Writes an offer at the end of the output.
+#[tactic(auto, using(crate::proofs::Fits::frames_fit))]
+pub fn push_offer(
+    alloc: Global,
+    version: Version,
+    key: ChannelKey,
+    name: &Text,
+    window: u32,
+    out: &mut Vec<u8>,
+) -> Result<(), OutOfMemory>
+    requires packed { is_packed version ≡ true }
+    requires id_above { 0 < key.id }
+    requires id_below { key.id < 0x8000000000000000 }
+    requires short { length name.now ≤ 1024 }
+    ensures { OnOk result (out.new.items ≡ out.old.items ++ frame_text version (frame_on key (Offer name.now (Some window)))) }
+{
+    let name = Text::from_str(alloc, name.as_str())?;
+    let payload = Payload::Offer(name, Some(u64::from(window)));
+    push_frame(version, &frame(version, key, Code::Offer, payload), out)
+}
+
+/// Writes an acceptance at the end of the output.
+#[tactic(auto, using(crate::proofs::Fits::frames_fit))]
+pub fn push_accepted(
+    version: Version,
+    key: ChannelKey,
+    window: u32,
+    out: &mut Vec<u8>,
+) -> Result<(), OutOfMemory>
+    requires packed { is_packed version ≡ true }
+    requires id_above { 0 < key.id }
+    requires id_below { key.id < 0x8000000000000000 }
+    ensures { OnOk result (out.new.items ≡ out.old.items ++ frame_text version (frame_on key (OfferAccepted (Some window)))) }
+{
+    let payload = Payload::Accepted(Some(u64::from(window)));
+    push_frame(
+        version,
+        &frame(version, key, Code::OfferAccepted, payload),
+        out,
+    )
+}
+
+/// Writes an acknowledgement at the end of the output.
+#[tactic(auto, using(crate::proofs::Fits::frames_fit))]
+pub fn push_processed(
+    version: Version,
+    key: ChannelKey,
+    count: u64,
+    out: &mut Vec<u8>,
+) -> Result<(), OutOfMemory>
+    requires packed { is_packed version ≡ true }
+    requires id_above { 0 < key.id }
+    requires id_below { key.id < 0x8000000000000000 }
+    requires count { count < 0x8000000000000000 }
+    ensures { OnOk result (out.new.items ≡ out.old.items ++ frame_text version (frame_on key (ContentProcessed count))) }
+{
+    let payload = Payload::Processed(count);
+    push_frame(
+        version,
+        &frame(version, key, Code::ContentProcessed, payload),
+        out,
+    )
+}
+
+#[tactic(auto, using(crate::proofs::Fits::frames_fit))]
+fn push_piece(
+    alloc: Global,
+    version: Version,
+    key: ChannelKey,
+    piece: &[u8],
+    out: &mut Vec<u8>,
+) -> Result<(), OutOfMemory>
+    requires packed { is_packed version ≡ true }
+    requires id_above { 0 < key.id }
+    requires id_below { key.id < 0x8000000000000000 }
+    requires short { length piece.now ≤ 0x100000 }
+    ensures { OnOk result (out.new.items ≡ out.old.items ++ frame_text version (frame_on key (Content piece.now))) }
+{
+    let payload = Payload::Content(Blob::from_bytes(alloc, piece)?);
+    push_frame(version, &frame(version, key, Code::Content, payload), out)
+}
+
+/// Writes content in pieces at the end of the output.
+pub fn push_content(
+    alloc: Global,
+    version: Version,
+    key: ChannelKey,
+    bytes: &[u8],
+    out: &mut Vec<u8>,
+) -> Result<(), OutOfMemory>
+    requires packed { is_packed version ≡ true }
+    requires id_above { 0 < key.id }
+    requires id_below { key.id < 0x8000000000000000 }
+    ensures { OnOk result (out.new.items ≡ out.old.items ++ frame_texts version (content_frames key bytes.now)) }
+{
+    let mut left = bytes;
+    'pieces: while !left.is_empty() {
+        let (piece, more) = left.split_at(PIECE_SIZE.min(left.len()));
+        push_piece(alloc, version, key, piece, out)?;
+        left = more;
+    }
+    Ok(())
+}
