@@ -1,5 +1,5 @@
 -- What is spelled so is read.
-use Rattle.std.proofs.Common.{◌≡◌, ℕ, zero, suc, ◌+◌, ◌≤◌, max, Bool, true, false, cond, ltb, List, [], ◌∷◌, ◌++◌, length, take, drop, Result, Ok, Err, refl, sym, ap, subst, ◌∙◌, append_assoc, length-append, arith, add-one}
+use Rattle.std.proofs.Common.{◌≡◌, ℕ, zero, suc, ◌≤◌, Bool, true, false, cond, ltb, List, [], ◌++◌, length, take, drop, Result, Ok, Err, refl, sym, ap, ◌∙◌, append_assoc, length-append, arith, add-one}
 use Rattle.std.specs.Prelude.{IsUtf8}
 use Rattle.std.specs.Str.{is_utf8}
 use Rattle.std.proofs.lemmas.Str.{is_utf8-from_IsUtf8}
@@ -13,7 +13,7 @@ use Rattle.wire_base.specs.Head.{head_of}
 use Rattle.wire_base.specs.declared.reason.Reason.TheVariants.{TooLong, BadUtf8}
 use Rattle.pack_value.specs.declared.fault.Fault.{Fault}
 use Rattle.pack_value.specs.declared.fault.Fault.TheVariants.{Short, Refused}
-use Rattle.pack_value.specs.Reading.{◌>>=◌, Reader, counted, run_at, text_at, key_of, key_at, repeat, pair_at, behind, at_head, value_at, items_at, pairs_at}
+use Rattle.pack_value.specs.Reading.{◌>>=◌, counted, run_at, text_at, key_of, key_at, repeat, pair_at, behind, at_head, value_at, items_at, pairs_at}
 use Rattle.pack_value.specs.Spelling.{IsHead, IsHeaded, SpellsText, Spells, SpellsAll, SpellsPairs, nesting, nestings, pair_nestings, count, pair_count, max_len}
 use Rattle.pack_value.proofs.Levels.{value_at-is}
 use Rattle.pack_value.proofs.Lists.{trees_of-list_of, pairs_of-list_of}

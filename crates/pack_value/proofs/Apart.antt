@@ -1,11 +1,11 @@
 -- Spellings and refusals exclude one another.
-use Rattle.std.proofs.Common.{◌≡◌, ℕ, ◌≤◌, Bool, true, false, ◌&&◌, leb, List, [], ◌∷◌, ◌++◌, length, take, refl, sym, ap, subst, ◌∙◌, ◌↔◌, arith}
+use Rattle.std.proofs.Common.{◌≡◌, ℕ, ◌≤◌, Bool, true, ◌&&◌, leb, List, [], ◌∷◌, ◌++◌, length, take, refl, sym, ap, subst, ◌∙◌, ◌↔◌}
 use Rattle.std.proofs.lemmas.List.{take_at}
 use Rattle.std.proofs.lemmas.Bool.{le-leb}
 use Rattle.wire_base.specs.Tree.{Tree, nil, flag, whole, words, bytes, items, pairs, Trees, no_items, item, Pairs, no_pairs, pair}
 use Rattle.wire_base.specs.declared.reason.Reason.{Reason}
 use Rattle.pack_value.specs.Spelling.{IsSpelling, Spells, SpellsAll, SpellsPairs, count, pair_count, max_len, max_nesting, nesting}
-use Rattle.pack_value.specs.Tokens.{IsRefused, Want, value}
+use Rattle.pack_value.specs.Tokens.{IsRefused, value}
 use Rattle.pack_value.specs.Answer.{Front, found, short, broken, front_of, IsAtFront, IsUndecided}
 use Rattle.pack_value.specs.Shortest.{IsValue, lengths_fit, item_lengths_fit, pair_lengths_fit, shortest}
 use Rattle.pack_value.proofs.Fronts.{Meets, front_meets, front_if_spelled, front_if_refused, at_front}

@@ -1,10 +1,10 @@
 -- What is read, and where reading stops, by the rules on tokens.
-use Rattle.std.proofs.Common.{◌≡◌, ℕ, zero, suc, ◌+◌, ◌≤◌, Bool, true, false, cond, ltb, nat_eq, List, [], ◌∷◌, ◌++◌, length, take, drop, Result, Ok, Err, Option, Some, None, refl, sym, ap, subst, ◌∙◌, append_assoc, arith, add-zero, length-drop}
+use Rattle.std.proofs.Common.{◌≡◌, ℕ, zero, suc, ◌+◌, Bool, true, false, cond, ltb, nat_eq, List, [], ◌∷◌, ◌++◌, length, take, drop, Result, Ok, Err, Option, Some, None, refl, ap, ◌∙◌, append_assoc, arith, add-zero}
 use Rattle.std.specs.Str.{is_utf8}
-use Rattle.std.specs.Int.{Width, byte_len, from_be_bytes, cast_signed}
+use Rattle.std.specs.Int.{byte_len, from_be_bytes, cast_signed}
 use Rattle.std.specs.Prelude.{pos}
-use Rattle.std.proofs.lemmas.List.{append-nil, drop-drop}
-use Rattle.std.proofs.lemmas.Bool.{ltb-false, le-ltb}
+use Rattle.std.proofs.lemmas.List.{drop-drop}
+use Rattle.std.proofs.lemmas.Bool.{le-ltb}
 use Rattle.wire_base.specs.Tree.{Tree, nil, flag, whole, words, bytes, items, pairs, trees_of, pairs_of}
 use Rattle.wire_base.specs.declared.reason.Reason.{Reason}
 use Rattle.wire_base.specs.declared.reason.Reason.TheVariants.{TooLong, TooDeep, BadUtf8, KeyNotText}
@@ -12,13 +12,12 @@ use Rattle.wire_base.specs.declared.token.TokenHead.{TokenHead}
 use Rattle.wire_base.specs.declared.token.TokenHead.TheVariants as token
 use Rattle.wire_base.specs.declared.token.HeadStep.{HeadStep}
 use Rattle.wire_base.specs.declared.token.HeadStep.TheVariants as step
-use Rattle.wire_base.specs.Head.{Kind, whole_head, unsigned, signed, str, bin, array, map, refused, kind_of, numbered, read_kind, head_of}
+use Rattle.wire_base.specs.Head.{Kind, whole_head, unsigned, signed, str, bin, array, map, refused, kind_of, read_kind, head_of}
 use Rattle.pack_value.specs.declared.fault.Fault.{Fault}
 use Rattle.pack_value.specs.declared.fault.Fault.TheVariants.{Short, Refused}
 use Rattle.pack_value.specs.Spelling.{max_len}
-use Rattle.pack_value.specs.Tokens.{Want, value, key, levels, opens, is_text, place_rule, first_rule, length_rule, body_len, content_rule, times, inside, wants_of, Next, takes, cut, breaks, or_next, next_by_content, next_by_head, next_of, BreaksAfter}
-use Rattle.pack_value.specs.Reading.{◌>>=◌, Reader, counted, counted_of, run_at, text_at, fault_of, cut_head, nested_key, key_of, key_at, repeat, pair_at, behind, at_head, too_deep, value_at}
-use Rattle.pack_value.proofs.Heads.{head-front}
+use Rattle.pack_value.specs.Tokens.{Want, value, key, levels, opens, is_text, place_rule, first_rule, length_rule, body_len, content_rule, times, wants_of, Next, takes, cut, breaks, or_next, next_by_content, next_by_head, next_of}
+use Rattle.pack_value.specs.Reading.{◌>>=◌, Reader, counted_of, run_at, text_at, fault_of, cut_head, key_of, key_at, repeat, pair_at, behind, at_head, too_deep, value_at}
 
 -- ---- tokens that pass
 

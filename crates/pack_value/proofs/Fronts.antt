@@ -1,6 +1,6 @@
 -- What reading gives, by the spellings and by the rules on tokens.
 use Rattle.std.proofs.Common.{◌≡◌, ℕ, ◌+◌, ◌-◌, ◌≤◌, List, [], ◌∷◌, ◌++◌, length, take, drop, Result, Ok, Err, refl, sym, ap, subst, ◌∙◌, arith, length-append, length-drop}
-use Rattle.std.proofs.lemmas.List.{take_at, take-append-drop, length-take}
+use Rattle.std.proofs.lemmas.List.{take_at, take-append-drop}
 use Rattle.wire_base.specs.Tree.{Tree}
 use Rattle.wire_base.specs.declared.reason.Reason.{Reason}
 use Rattle.pack_value.specs.declared.fault.Fault.{Fault}
@@ -10,7 +10,7 @@ use Rattle.pack_value.specs.declared.fault.DecodeError.TheVariants as errors
 use Rattle.pack_value.specs.declared.step.Step.{Step}
 use Rattle.pack_value.specs.declared.step.Step.TheVariants as step
 use Rattle.pack_value.specs.Spelling.{IsSpelling, max_nesting}
-use Rattle.pack_value.specs.Tokens.{Want, value, IsRefused}
+use Rattle.pack_value.specs.Tokens.{value, IsRefused}
 use Rattle.pack_value.specs.Reading.{Fails, value_at}
 use Rattle.pack_value.specs.Answer.{Front, found, short, broken, front_from, front_of, step_of, Answers, IfGot, IfRefused, IfShort, IsAtFront, IsUndecided}
 use Rattle.pack_value.proofs.Found.{value_found}

@@ -1,6 +1,6 @@
 -- A head is its front, whatever follows.
-use Rattle.std.proofs.Common.{◌≡◌, ℕ, ◌≤◌, List, [], ◌++◌, length, take, sym, ap, ◌∙◌, arith}
-use Rattle.std.proofs.lemmas.List.{append-nil, length-take}
+use Rattle.std.proofs.Common.{◌≡◌, ℕ, ◌≤◌, List, length, take, arith}
+use Rattle.std.proofs.lemmas.List.{length-take}
 use Rattle.wire_base.specs.declared.token.TokenHead.{TokenHead}
 use Rattle.wire_base.specs.declared.token.HeadStep.TheVariants.{Got}
 use Rattle.wire_base.specs.Head.{head_of}

@@ -3,8 +3,8 @@ use Rattle.std.proofs.Common.{◌≡◌, ℕ, zero, suc, ◌+◌, ◌≤◌, ◌
 use Rattle.std.proofs.lemmas.List.{append-nil, take_more}
 use Rattle.wire_base.specs.Tree.{Tree, Trees, no_items, item, Pairs, no_pairs, pair, weight, list_size, pair_size, trees_of, pairs_of, list_of, pair_list_of}
 use Rattle.wire_base.proofs.Back.{pair_list_of-pairs_of}
-use Rattle.pack_value.specs.Spelling.{max_len, nesting, nestings, pair_nestings, count, pair_count}
-use Rattle.pack_value.specs.Shortest.{text, shortest, shortest_items, shortest_pairs, lengths_fit, item_lengths_fit, pair_lengths_fit, IsValue, AreValues, ArePairs, IsEntry, entry_fits, shortest_entry}
+use Rattle.pack_value.specs.Spelling.{nesting, nestings, pair_nestings, count, pair_count}
+use Rattle.pack_value.specs.Shortest.{shortest, shortest_items, shortest_pairs, lengths_fit, item_lengths_fit, pair_lengths_fit, IsValue, AreValues, ArePairs, IsEntry, entry_fits, shortest_entry}
 
 abbrev pub Entry : Type 0
 Entry = List ℕ × Tree

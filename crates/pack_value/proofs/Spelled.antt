@@ -1,9 +1,7 @@
 -- The shortest spelling is a spelling.
 use Rattle.std.proofs.Common.{◌≡◌, ℕ, ◌^◌, ◌≤◌, ◌<◌, Bool, true, false, List, [], ◌∷◌, ◌++◌, length, refl, arith, append_assoc}
-use Rattle.std.specs.Prelude.{ℤ}
 use Rattle.std.proofs.lemmas.List.{append-nil}
 use Rattle.wire_base.specs.Tree.{Tree, nil, flag, whole, words, bytes, items, pairs, Trees, no_items, item, Pairs, no_pairs, pair}
-use Rattle.wire_base.specs.Whole.{IsWhole}
 use Rattle.wire_base.specs.declared.token.TokenHead.TheVariants as token
 use Rattle.wire_base.specs.declared.token.TokenHead.{TokenHead}
 use Rattle.wire_base.specs.declared.token.HeadStep.TheVariants.{Got}

@@ -1,8 +1,7 @@
 -- What decoding answers.
-use Rattle.std.specs.Prelude.{◌≡◌, ◌≢◌, ℕ, ◌+◌, ◌-◌, ◌≤◌, List, ◌++◌, length, take, Result, Ok, Err}
+use Rattle.std.specs.Prelude.{◌≡◌, ℕ, ◌+◌, ◌-◌, ◌≤◌, List, length, take, Result, Ok, Err}
 use Rattle.wire_base.specs.Tree.{Tree}
 use Rattle.wire_base.specs.declared.reason.Reason.{Reason}
-use Rattle.wire_base.specs.declared.place.Place.{Place}
 use Rattle.pack_value.specs.declared.fault.Fault.{Fault}
 use Rattle.pack_value.specs.declared.fault.Fault.TheVariants as fault
 use Rattle.pack_value.specs.declared.step.Step.{Step}

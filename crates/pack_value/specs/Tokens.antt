@@ -7,7 +7,7 @@ use Rattle.wire_base.specs.declared.token.TokenHead.{TokenHead}
 use Rattle.wire_base.specs.declared.token.TokenHead.TheVariants as token
 use Rattle.wire_base.specs.declared.token.HeadStep.{HeadStep}
 use Rattle.wire_base.specs.declared.token.HeadStep.TheVariants as step
-use Rattle.wire_base.specs.Head.{Kind, whole_head, unsigned, signed, str, bin, array, map, refused, kind_of, head_of}
+use Rattle.wire_base.specs.Head.{Kind, whole_head, str, array, map, refused, kind_of, head_of}
 use Rattle.pack_value.specs.Spelling.{max_len, max_nesting}
 
 -- What may stand at a place, a value or a map's key, with so many levels of arrays and maps left.

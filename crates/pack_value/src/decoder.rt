@@ -251,7 +251,8 @@ fn step_at(alloc: Global, bytes: &[u8], at: Place) -> Step
     }
 }
 
-/// The value at the front of the bytes, which begin at this place of a stream. Bytes may follow it.
+/// The value at the front of the bytes, which begin at this place of a stream. Bytes may follow it. Each byte of the
+/// value is read once, and the stack grows with the nesting alone.
 pub fn decode(alloc: Global, bytes: &[u8], at: Place) -> Step
     requires { at.0 ≤ 2 ^ 63 }
     // What is got is spelled so.
