@@ -3,5 +3,7 @@
 
 mod duo;
 mod ends;
+#[cfg(test)]
+mod tests;
 
 pub use duo::Duo;
