@@ -1,5 +1,5 @@
 -- What a replay has read and written when it answers a status.
-use Rattle.std.specs.Prelude.{◌≡◌, ◌≤◌, ℕ, List, [], Bool, true, length, Option, Some, replicate}
+use Rattle.std.specs.Prelude.{◌≡◌, ◌≤◌, ℕ, List, Bool, true, length, Option, replicate}
 use Rattle.std.specs.Io.KnownBytes.{append_known}
 use Rattle.wire_base.specs.Causes.{Rose}
 use Rattle.wire_base.specs.declared.frame.Version.{Version}

@@ -1,5 +1,5 @@
 -- Which words are a command.
-use Rattle.std.specs.Prelude.{ℕ, List, [], ◌∷◌, Bool, true, false, codes}
+use Rattle.std.specs.Prelude.{ℕ, List, [], ◌∷◌, Bool, false, codes}
 use Rattle.std.specs.Str.{bytes_eq}
 
 -- the program's name and the word `replay`

@@ -3,7 +3,7 @@ use Rattle.std.specs.Io.KnownBytes.{append_known}
 use Rattle.mux_run.proofs.Safety.{run_safe}
 use Rattle.script.specs.Found.{script_in}
 use Rattle.transcript.specs.Report.{report_text}
-use Rattle.muxrpc_app.specs.Outcome.{SourceState, ReadScript, ReplayDone, WritingFailed, script_terms}
+use Rattle.muxrpc_app.specs.Outcome.{script_terms}
 use Rattle.muxrpc_app.proofs.replay.replay.Goals as goal
 
 pub returns-in-Ok-write_output : goal.returns-in-Ok-write_output
