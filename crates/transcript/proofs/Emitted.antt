@@ -1,5 +1,5 @@
 -- What a side emits in a step.
-use Rattle.std.proofs.Common.{◌≡◌, ℕ, ◌+◌, ◌≤◌, List, [], ◌∷◌, ◌++◌, length, take, drop, refl, sym, ◌∙◌, ap, subst, arith, append_assoc, length-append}
+use Rattle.std.proofs.Common.{◌≡◌, ℕ, ◌≤◌, List, [], ◌++◌, length, take, drop, refl, sym, ◌∙◌, ap, subst, arith, append_assoc, length-append}
 use Rattle.std.proofs.lemmas.List.{append-nil, append_cancel_left, take-append-le, drop_at, drop_all}
 use Rattle.std.specs.Fmt.{decimal}
 use Rattle.std.specs.Prelude.{codes}
@@ -11,7 +11,7 @@ use Rattle.mux_run.specs.declared.steps.Step.{Step}
 use Rattle.mux_run.specs.declared.answers.DuoAnswer.{DuoAnswer}
 use Rattle.mux_run.specs.Run.{Half, World, Terms, Ways, ways_a, ways_b, out, run, start, half_after, happens_at, happens, side_of}
 use Rattle.mux_run.specs.Answers.{answer}
-use Rattle.mux_run.proofs.Growing.{Grown, half_after_grown, out-grows}
+use Rattle.mux_run.proofs.Growing.{half_after_grown, out-grows}
 use Rattle.mux_run.proofs.Links.{run_from-push}
 use Rattle.mux_end.specs.Stands.{EndValue}
 use Rattle.duo_world.specs.Holding.{HalfStands, WorldStands, DuoState, StandsForRun, output_to}

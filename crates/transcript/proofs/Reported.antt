@@ -1,13 +1,13 @@
 -- The lines of steps, one after the other.
 use Rattle.std.specs.Prelude.{cond}
 use Rattle.std.specs.List.{list_all}
-use Rattle.std.proofs.Common.{◌≡◌, ℕ, ◌+◌, ◌-◌, ◌^◌, ◌<◌, ◌≤◌, List, [], ◌∷◌, ◌++◌, length, length-append, Bool, true, false, ◌&&◌, count_by, refl, sym, ◌∙◌, ap, subst, arith, append_assoc}
+use Rattle.std.proofs.Common.{◌≡◌, ℕ, ◌+◌, ◌≤◌, List, [], ◌∷◌, ◌++◌, length, length-append, Bool, true, false, ◌&&◌, refl, sym, ◌∙◌, ap, subst, arith, append_assoc}
 use Rattle.std.proofs.lemmas.List.{append-nil}
 use Rattle.std.proofs.lemmas.List.Sums.{sum_by-append}
 use Rattle.std.proofs.lemmas.List.Folds.{list_all-append}
 use Rattle.mux_run.specs.declared.steps.Step.{Step}
 use Rattle.mux_run.specs.Built.{AreBuilt, is_built_step, is_offer_step}
-use Rattle.mux_run.specs.Run.{World, Terms, happens, run, start}
+use Rattle.mux_run.specs.Run.{Terms, happens, run, start}
 use Rattle.mux_run.proofs.Links.{run_from-push}
 use Rattle.transcript.specs.Report.{step_lines, steps_lines}
 

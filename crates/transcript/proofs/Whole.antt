@@ -1,13 +1,13 @@
 -- A whole report from its parts.
-use Rattle.std.proofs.Common.{◌≡◌, ℕ, List, [], ◌∷◌, ◌++◌, codes, refl, sym, ◌∙◌, ap, subst, append_assoc}
+use Rattle.std.proofs.Common.{◌≡◌, ℕ, List, [], ◌++◌, codes, sym, ◌∙◌, ap, subst, append_assoc}
 use Rattle.std.proofs.lemmas.List.{append-nil}
 use Rattle.wire_base.specs.declared.frame.Version.{Version}
 use Rattle.frame_text.specs.Hello.{hello}
 use Rattle.mux_run.specs.declared.steps.Step.{Step}
 use Rattle.mux_run.specs.declared.steps.Side.TheVariants.{A, B}
-use Rattle.mux_run.specs.Run.{Terms, World, run, start, out}
+use Rattle.mux_run.specs.Run.{run, start}
 use Rattle.mux_run.specs.Safe.{IsSafeRun}
-use Rattle.duo_world.specs.Holding.{DuoState, StandsForRun, WorldStands, HalfStands}
+use Rattle.duo_world.specs.Holding.{DuoState, WorldStands}
 use Rattle.mux_end.specs.Stands.{EndValue, MuxStands}
 use Rattle.mux_items.specs.Items.{Item}
 use Rattle.mux_run.specs.declared.steps.Side.{Side}

@@ -1,7 +1,6 @@
-use Rattle.std.proofs.Common.{◌≡◌, ◌++◌, [], ap, ◌∙◌, sym, subst}
+use Rattle.std.proofs.Common.{◌++◌, [], ap, ◌∙◌, subst}
 use Rattle.mux_run.specs.declared.steps.Side.TheVariants.{A, B}
 use Rattle.mux_run.specs.Run.{run, start}
-use Rattle.mux_run.specs.Safe.{IsSafeRun}
 use Rattle.mux_run.proofs.Safety.{run_safe}
 use Rattle.transcript.specs.Ran.{HasMade, HasRun}
 use Rattle.transcript.specs.Words.{emitted_line}

@@ -1,4 +1,4 @@
-use Rattle.std.proofs.Common.{◌≡◌, ◌≤◌, ap, ◌∙◌, sym, length, drop, arith}
+use Rattle.std.proofs.Common.{◌≡◌, ap, ◌∙◌, length, drop, arith}
 use Rattle.duo_world.specs.Holding.{output_to}
 use Rattle.transcript.specs.Words.{other_side}
 use Rattle.transcript.proofs.Emitted.{made_of, step_told, step_lines_are}

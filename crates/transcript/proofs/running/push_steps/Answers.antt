@@ -1,5 +1,4 @@
-use Rattle.std.proofs.Common.{◌≡◌, ◌≤◌, ◌+◌, ◌∷◌, ◌++◌, [], length, length-append, sym, ◌∙◌, ap, refl, arith, append_assoc}
-use Rattle.std.specs.Vec.Iter.{into_iter_items}
+use Rattle.std.proofs.Common.{◌≡◌, ◌+◌, ◌∷◌, ◌++◌, [], length, length-append, ◌∙◌, ap, arith}
 use Rattle.mux_run.specs.Run.{run}
 use Rattle.transcript.specs.Report.{step_lines}
 use Rattle.mux_run.proofs.Safety.{run_safe}

@@ -1,4 +1,4 @@
-use Rattle.std.proofs.Common.{◌≡◌, ◌+◌, ◌++◌, List, length, false}
+use Rattle.std.proofs.Common.{◌≡◌, ◌+◌, ◌++◌, length, false}
 use Rattle.std.specs.Vec.Iter.{into_iter_items}
 use Rattle.mux_run.specs.Run.{run, start}
 use Rattle.duo_world.specs.Holding.{StandsForRun}

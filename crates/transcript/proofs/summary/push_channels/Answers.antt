@@ -1,6 +1,5 @@
-use Rattle.std.proofs.Common.{sym, ◌∙◌, refl, arith, ◌≤◌, ◌≡◌, length, drop, [], ℕ}
+use Rattle.std.proofs.Common.{sym, ◌∙◌, refl, arith, ◌≤◌, length}
 use Rattle.std.proofs.lemmas.List.{drop_all}
-use Rattle.mux_items.specs.Items.{Item}
 use Rattle.mux_items.specs.Views.{known_keys}
 use Rattle.transcript.specs.Words.{offering_side}
 use Rattle.transcript.specs.Report.{channel_line, same_side}
