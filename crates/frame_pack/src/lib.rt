@@ -10,3 +10,4 @@ mod tokens;
 mod writing;
 
 pub use codec::PackCodec;
+pub use tokens::{array_of, bin_of, breaks, count, number};

@@ -1,7 +1,7 @@
 //! Frames, read.
 
 ghost use Rattle.frame_text.specs.Codec.{Decodes, elements, is_packed};
-ghost use Rattle.frame_text.specs.Reading.{Gives, content_at, front, origin_at, packed_at, payload_at};
+ghost use Rattle.frame_text.specs.Reading.{Gives, Says, content_at, front, origin_at, packed_at, payload_at};
 ghost use Rattle.std.specs.Prelude.{◌≡◌, ◌<◌, ◌≤◌, ◌^◌, true};
 
 use crate::payload::carried;
@@ -15,8 +15,8 @@ const MAX_PAYLOAD: u32 = 0x10_0000;
 
 /// A payload's bytes, and the bytes after it.
 #[tactic(auto, unfolding(frame_text::specs::Reading::payload_at))]
-fn payload_bytes(present: bool, bytes: &[u8]) -> Result<(&[u8], &[u8]), DecodeError>
-    ensures { Gives (λ x. (x.0.now, x.1.now)) result (payload_at present bytes.now) }
+fn payload_bytes(present: bool, bytes: &[u8]) -> Result<(&[u8], &[u8]), Fault>
+    ensures { Says (λ x. (x.0.now, x.1.now)) result (payload_at present bytes.now) }
 {
     if !present {
         return Ok((&[], bytes));
@@ -27,7 +27,7 @@ fn payload_bytes(present: bool, bytes: &[u8]) -> Result<(&[u8], &[u8]), DecodeEr
     }
     let len = len as usize;
     if rest.len() < len {
-        return Err(DecodeError::Fault(Fault::Ends));
+        return Err(Fault::Ends);
     }
     Ok(rest.split_at(len))
 }
@@ -51,8 +51,8 @@ fn content(
     }
 }
 
-fn origin(version: Version, bytes: &[u8]) -> Result<(Origin, &[u8]), DecodeError>
-    ensures { Gives (λ x. (x.0, x.1.now)) result (origin_at version bytes.now) }
+fn origin(version: Version, bytes: &[u8]) -> Result<(Origin, &[u8]), Fault>
+    ensures { Says (λ x. (x.0, x.1.now)) result (origin_at version bytes.now) }
 {
     match version {
         Version::Three => source(bytes),

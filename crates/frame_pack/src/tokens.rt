@@ -1,11 +1,11 @@
 //! Tokens of one sort.
 
-ghost use Rattle.frame_text.specs.Reading.{Gives, a_bin, a_number, a_str, an_array, code_in, count_in, head_at, id_in, inner_at, is_array, is_bin, is_number, is_str, last_in, number_in, only, origin_in, token_at};
+ghost use Rattle.frame_text.specs.Reading.{Says, a_bin, a_number, a_str, an_array, code_in, count_in, head_at, id_in, inner_at, is_array, is_bin, is_number, is_str, last_in, number_in, only, origin_in, token_at};
 ghost use Rattle.std.specs.Prelude.{◌≡◌, ◌+◌, ◌<◌, ◌^◌, length, Some};
 ghost use Rattle.wire_base.specs.Head.{kind_of};
 ghost use Rattle.wire_base.specs.declared.reason.Reason.TheVariants.{BadCode, BadId, BadSource};
 
-use frame_text::{DecodeError, Fault};
+use frame_text::Fault;
 use wire_base::{Code, HeadStep, Origin, Reason, TokenHead, head};
 
 /// An id, a window or a count is below this.
@@ -39,10 +39,11 @@ fn begins_array(first: u8) -> bool
     matches!(first, 0x90..=0x9f | 0xdc | 0xdd)
 }
 
-pub fn breaks(bytes: &[u8], reason: Reason) -> DecodeError
-    ensures { result ≡ DecodeError.Fault (Fault.Breaks (length bytes.now) reason) }
+/// The fault of a token at the front of these bytes that breaks a rule.
+pub fn breaks(bytes: &[u8], reason: Reason) -> Fault
+    ensures { result ≡ Fault.Breaks (length bytes.now) reason }
 {
-    DecodeError::Fault(Fault::Breaks(bytes.len(), reason))
+    Fault::Breaks(bytes.len(), reason)
 }
 
 fn number_said(token: TokenHead) -> Option<i128>
@@ -54,9 +55,10 @@ fn number_said(token: TokenHead) -> Option<i128>
     }
 }
 
+/// A whole number of any width, and the bytes after it.
 #[tactic(auto, unfolding(frame_text::specs::Reading::head_at))]
-fn number(reason: Reason, bytes: &[u8]) -> Result<(i128, &[u8]), DecodeError>
-    ensures { Gives (λ x. (x.0, x.1.now)) result (head_at a_number reason bytes.now) }
+pub fn number(reason: Reason, bytes: &[u8]) -> Result<(i128, &[u8]), Fault>
+    ensures { Says (λ x. (x.0, x.1.now)) result (head_at a_number reason bytes.now) }
 {
     match head(bytes) {
         HeadStep::Got(token, n) => match number_said(token) {
@@ -66,14 +68,14 @@ fn number(reason: Reason, bytes: &[u8]) -> Result<(i128, &[u8]), DecodeError>
         HeadStep::Refused(refused) => Err(breaks(bytes, refused)),
         HeadStep::Short => match bytes {
             [first, ..] if !begins_number(*first) => Err(breaks(bytes, reason)),
-            _ => Err(DecodeError::Fault(Fault::Ends)),
+            _ => Err(Fault::Ends),
         },
     }
 }
 
 #[tactic(auto, unfolding(frame_text::specs::Reading::head_at))]
-pub fn str_head(reason: Reason, bytes: &[u8]) -> Result<(u32, &[u8]), DecodeError>
-    ensures { Gives (λ x. (x.0, x.1.now)) result (head_at a_str reason bytes.now) }
+pub fn str_head(reason: Reason, bytes: &[u8]) -> Result<(u32, &[u8]), Fault>
+    ensures { Says (λ x. (x.0, x.1.now)) result (head_at a_str reason bytes.now) }
 {
     match head(bytes) {
         HeadStep::Got(TokenHead::Str(len), n) => Ok((len, &bytes[n..])),
@@ -81,14 +83,14 @@ pub fn str_head(reason: Reason, bytes: &[u8]) -> Result<(u32, &[u8]), DecodeErro
         HeadStep::Refused(refused) => Err(breaks(bytes, refused)),
         HeadStep::Short => match bytes {
             [first, ..] if !begins_str(*first) => Err(breaks(bytes, reason)),
-            _ => Err(DecodeError::Fault(Fault::Ends)),
+            _ => Err(Fault::Ends),
         },
     }
 }
 
 #[tactic(auto, unfolding(frame_text::specs::Reading::head_at))]
-pub fn bin_head(reason: Reason, bytes: &[u8]) -> Result<(u32, &[u8]), DecodeError>
-    ensures { Gives (λ x. (x.0, x.1.now)) result (head_at a_bin reason bytes.now) }
+pub fn bin_head(reason: Reason, bytes: &[u8]) -> Result<(u32, &[u8]), Fault>
+    ensures { Says (λ x. (x.0, x.1.now)) result (head_at a_bin reason bytes.now) }
 {
     match head(bytes) {
         HeadStep::Got(TokenHead::Bin(len), n) => Ok((len, &bytes[n..])),
@@ -96,14 +98,14 @@ pub fn bin_head(reason: Reason, bytes: &[u8]) -> Result<(u32, &[u8]), DecodeErro
         HeadStep::Refused(refused) => Err(breaks(bytes, refused)),
         HeadStep::Short => match bytes {
             [first, ..] if !begins_bin(*first) => Err(breaks(bytes, reason)),
-            _ => Err(DecodeError::Fault(Fault::Ends)),
+            _ => Err(Fault::Ends),
         },
     }
 }
 
 #[tactic(auto, unfolding(frame_text::specs::Reading::head_at))]
-fn array_head(reason: Reason, bytes: &[u8]) -> Result<(u32, &[u8]), DecodeError>
-    ensures { Gives (λ x. (x.0, x.1.now)) result (head_at an_array reason bytes.now) }
+fn array_head(reason: Reason, bytes: &[u8]) -> Result<(u32, &[u8]), Fault>
+    ensures { Says (λ x. (x.0, x.1.now)) result (head_at an_array reason bytes.now) }
 {
     match head(bytes) {
         HeadStep::Got(TokenHead::Array(count), n) => Ok((count, &bytes[n..])),
@@ -111,16 +113,16 @@ fn array_head(reason: Reason, bytes: &[u8]) -> Result<(u32, &[u8]), DecodeError>
         HeadStep::Refused(refused) => Err(breaks(bytes, refused)),
         HeadStep::Short => match bytes {
             [first, ..] if !begins_array(*first) => Err(breaks(bytes, reason)),
-            _ => Err(DecodeError::Fault(Fault::Ends)),
+            _ => Err(Fault::Ends),
         },
     }
 }
 
 /// An array whose last element may be left out, and whether it has that one.
 #[tactic(auto, unfolding(frame_text::specs::Reading::token_at))]
-pub fn open_array(least: u32, reason: Reason, bytes: &[u8]) -> Result<(bool, &[u8]), DecodeError>
+pub fn open_array(least: u32, reason: Reason, bytes: &[u8]) -> Result<(bool, &[u8]), Fault>
     requires { least < 8 }
-    ensures { Gives (λ x. (x.0, x.1.now)) result (token_at an_array (last_in least) reason bytes.now) }
+    ensures { Says (λ x. (x.0, x.1.now)) result (token_at an_array (last_in least) reason bytes.now) }
 {
     let (count, rest) = array_head(reason, bytes)?;
     if count == least {
@@ -132,9 +134,10 @@ pub fn open_array(least: u32, reason: Reason, bytes: &[u8]) -> Result<(bool, &[u
     }
 }
 
+/// The head of an array of so many elements, and the bytes after it.
 #[tactic(auto, unfolding(frame_text::specs::Reading::token_at))]
-pub fn array_of(elements: u32, reason: Reason, bytes: &[u8]) -> Result<(u32, &[u8]), DecodeError>
-    ensures { Gives (λ x. (x.0, x.1.now)) result (token_at an_array (only elements) reason bytes.now) }
+pub fn array_of(elements: u32, reason: Reason, bytes: &[u8]) -> Result<(u32, &[u8]), Fault>
+    ensures { Says (λ x. (x.0, x.1.now)) result (token_at an_array (only elements) reason bytes.now) }
 {
     let (count, rest) = array_head(reason, bytes)?;
     if count == elements {
@@ -144,9 +147,22 @@ pub fn array_of(elements: u32, reason: Reason, bytes: &[u8]) -> Result<(u32, &[u
     }
 }
 
+/// The head of a bin of so many bytes, and the bytes after it.
 #[tactic(auto, unfolding(frame_text::specs::Reading::token_at))]
-pub fn code(bytes: &[u8]) -> Result<(Code, &[u8]), DecodeError>
-    ensures { Gives (λ x. (x.0, x.1.now)) result (token_at a_number code_in BadCode bytes.now) }
+pub fn bin_of(size: u32, reason: Reason, bytes: &[u8]) -> Result<(u32, &[u8]), Fault>
+    ensures { Says (λ x. (x.0, x.1.now)) result (token_at a_bin (only size) reason bytes.now) }
+{
+    let (len, rest) = bin_head(reason, bytes)?;
+    if len == size {
+        Ok((len, rest))
+    } else {
+        Err(breaks(bytes, reason))
+    }
+}
+
+#[tactic(auto, unfolding(frame_text::specs::Reading::token_at))]
+pub fn code(bytes: &[u8]) -> Result<(Code, &[u8]), Fault>
+    ensures { Says (λ x. (x.0, x.1.now)) result (token_at a_number code_in BadCode bytes.now) }
 {
     let (number, rest) = number(Reason::BadCode, bytes)?;
     match number {
@@ -161,8 +177,8 @@ pub fn code(bytes: &[u8]) -> Result<(Code, &[u8]), DecodeError>
 }
 
 #[tactic(auto, unfolding(frame_text::specs::Reading::token_at))]
-pub fn id(bytes: &[u8]) -> Result<(u64, &[u8]), DecodeError>
-    ensures { Gives (λ x. (x.0, x.1.now)) result (token_at a_number id_in BadId bytes.now) }
+pub fn id(bytes: &[u8]) -> Result<(u64, &[u8]), Fault>
+    ensures { Says (λ x. (x.0, x.1.now)) result (token_at a_number id_in BadId bytes.now) }
 {
     let (number, rest) = number(Reason::BadId, bytes)?;
     if 0 < number && number < NUMBER_LIMIT {
@@ -173,8 +189,8 @@ pub fn id(bytes: &[u8]) -> Result<(u64, &[u8]), DecodeError>
 }
 
 #[tactic(auto, unfolding(frame_text::specs::Reading::token_at))]
-pub fn source(bytes: &[u8]) -> Result<(Origin, &[u8]), DecodeError>
-    ensures { Gives (λ x. (x.0, x.1.now)) result (token_at a_number origin_in BadSource bytes.now) }
+pub fn source(bytes: &[u8]) -> Result<(Origin, &[u8]), Fault>
+    ensures { Says (λ x. (x.0, x.1.now)) result (token_at a_number origin_in BadSource bytes.now) }
 {
     let (number, rest) = number(Reason::BadSource, bytes)?;
     match number {
@@ -184,9 +200,10 @@ pub fn source(bytes: &[u8]) -> Result<(Origin, &[u8]), DecodeError>
     }
 }
 
+/// A window or a count, which is a whole number from 0 to 2^63 - 1, and the bytes after it.
 #[tactic(auto, unfolding(frame_text::specs::Reading::token_at))]
-pub fn count(reason: Reason, bytes: &[u8]) -> Result<(u64, &[u8]), DecodeError>
-    ensures { Gives (λ x. (x.0, x.1.now)) result (token_at a_number count_in reason bytes.now) }
+pub fn count(reason: Reason, bytes: &[u8]) -> Result<(u64, &[u8]), Fault>
+    ensures { Says (λ x. (x.0, x.1.now)) result (token_at a_number count_in reason bytes.now) }
 {
     let (number, rest) = number(reason, bytes)?;
     if 0 <= number && number < NUMBER_LIMIT {

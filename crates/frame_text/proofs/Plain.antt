@@ -28,13 +28,13 @@ use Rattle.frame_text.proofs.Shortest.{bytes_left, bytes_right, below-2, below-4
 
 -- ---- what is spelled is read
 
-field-again : {B : Type 0} (w : Width) (make : ℕ → Option B) (reason : Reason) (y : B) (b rest : List ℕ) → length b ≡ byte_len w → make (from_be_bytes w b) ≡ Some y → field_at w make reason (b ++ rest) ≡ Ok (y, rest)
+pub field-again : {B : Type 0} (w : Width) (make : ℕ → Option B) (reason : Reason) (y : B) (b rest : List ℕ) → length b ≡ byte_len w → make (from_be_bytes w b) ≡ Some y → field_at w make reason (b ++ rest) ≡ Ok (y, rest)
 unfolding field_at
 field-again w make reason y b rest len makes =
     let long : ltb (length (b ++ rest)) (byte_len w) ≡ false = le-ltb (length (b ++ rest)) (byte_len w) (omega (arith, length-append b rest, len)) in
     rw (long, take_at b rest (byte_len w) len, drop_at b rest (byte_len w) len, makes) refl
 
-bytes-again : (bytes rest : List ℕ) → bytes_at (length bytes) (bytes ++ rest) ≡ Ok (bytes, rest)
+pub bytes-again : (bytes rest : List ℕ) → bytes_at (length bytes) (bytes ++ rest) ≡ Ok (bytes, rest)
 unfolding bytes_at
 bytes-again bytes rest =
     let long : ltb (length (bytes ++ rest)) (length bytes) ≡ false = le-ltb (length (bytes ++ rest)) (length bytes) (omega (arith, length-append bytes rest)) in

@@ -30,7 +30,7 @@ IsSteady more (Err (Breaks left reason)) s = s ≡ Err (Breaks (left + length mo
 pub record Steady {A : Type 0} (read : Reader A) : Type 0 where
   pub at : (bytes more : List ℕ) → IsSteady more (read bytes) (read (bytes ++ more))
 
-follow-steady : {A B : Type 0} (more : List ℕ) (r s : Reading A) (next : A → Reader B) → IsSteady more r s → ((x : A) → Steady (next x)) → IsSteady more (follow r next) (follow s next)
+pub follow-steady : {A B : Type 0} (more : List ℕ) (r s : Reading A) (next : A → Reader B) → IsSteady more r s → ((x : A) → Steady (next x)) → IsSteady more (follow r next) (follow s next)
 follow-steady {A} {B} more (Ok x) s next h n = subst (λ (t : Reading A). IsSteady more (next x.0 x.1) (follow t next)) (sym h) ((n x.0).at x.1 more)
 follow-steady more (Err Ends) s next h n = tt
 follow-steady more (Err (Breaks left reason)) s next h n = ap (λ t. follow t next) h
@@ -38,7 +38,7 @@ follow-steady more (Err (Breaks left reason)) s next h n = ap (λ t. follow t ne
 pub steady-then : {A B : Type 0} (read : Reader A) (next : A → Reader B) → Steady read → ((x : A) → Steady (next x)) → Steady (read >>= next)
 steady-then read next h n = record { at = λ bytes more. follow-steady more (read bytes) (read (bytes ++ more)) next (h.at bytes more) n }
 
-steady-done : {A : Type 0} (x : A) → Steady (done x)
+pub steady-done : {A : Type 0} (x : A) → Steady (done x)
 steady-done x = record { at = λ bytes more. refl }
 
 module _ {A : Type 0} (sort : Sort A) (reason : Reason) (is_sort : IsSort sort) where
@@ -76,7 +76,7 @@ module _ {A : Type 0} (sort : Sort A) (reason : Reason) (is_sort : IsSort sort) 
   unfolding head_at
   head_at-steady = record { at = λ bytes more. headed-steady (head_of bytes) bytes more refl }
 
-allowed-steady : {A B : Type 0} (make : A → Option B) (reason : Reason) (total : ℕ) (more : List ℕ) (r s : Reading A) → IsSteady more r s → IsSteady more (follow r (λ x. allowed total reason (make x))) (follow s (λ x. allowed (total + length more) reason (make x)))
+pub allowed-steady : {A B : Type 0} (make : A → Option B) (reason : Reason) (total : ℕ) (more : List ℕ) (r s : Reading A) → IsSteady more r s → IsSteady more (follow r (λ x. allowed total reason (make x))) (follow s (λ x. allowed (total + length more) reason (make x)))
 allowed-steady {A} {B} make reason total more (Ok x) s h = rw h (elim (make x.0) as (λ (o : Option B). IsSteady more (allowed total reason o x.1) (allowed (total + length more) reason o (x.1 ++ more))) [ None ↦ refl | Some y ↦ refl ])
 allowed-steady make reason total more (Err Ends) s h = tt
 allowed-steady make reason total more (Err (Breaks left r)) s h = rw h refl
@@ -144,7 +144,7 @@ packed_at-steady v =
 
 -- ---- frames of version 1
 
-field_at-steady : {B : Type 0} (w : Width) (make : ℕ → Option B) (reason : Reason) → Steady (field_at w make reason)
+pub field_at-steady : {B : Type 0} (w : Width) (make : ℕ → Option B) (reason : Reason) → Steady (field_at w make reason)
 unfolding field_at
 field_at-steady {B} w make reason = record {
   at = λ bytes more.
@@ -162,7 +162,7 @@ field_at-steady {B} w make reason = record {
       ];
 }
 
-bytes_at-steady : (n : ℕ) → Steady (bytes_at n)
+pub bytes_at-steady : (n : ℕ) → Steady (bytes_at n)
 unfolding bytes_at
 bytes_at-steady n = record {
   at = λ bytes more.

@@ -74,7 +74,7 @@ module _ {A : Type 0} (sort : Sort A) (reason : Reason) where
   unfolding head_at
   head_at-stops = record { at = λ bytes. headed-within (head_of bytes) bytes refl }
 
-allowed-within : {A B : Type 0} (make : A → Option B) (reason : Reason) (total : ℕ) (r : Reading A) → IsWithin 1 17 total r → IsWithin 1 17 total (follow r (λ x. allowed total reason (make x)))
+pub allowed-within : {A B : Type 0} (make : A → Option B) (reason : Reason) (total : ℕ) (r : Reading A) → IsWithin 1 17 total r → IsWithin 1 17 total (follow r (λ x. allowed total reason (make x)))
 allowed-within {A} {B} make reason total (Ok x) h = elim (make x.0) as (λ o. IsWithin 1 17 total (allowed total reason o x.1)) [ None ↦ (omega arith, omega arith) | Some y ↦ h ]
 allowed-within make reason total (Err Ends) h = tt
 allowed-within make reason total (Err (Breaks left r)) h = h
@@ -109,7 +109,7 @@ below-from least most total (Ok x) h = omega (arith, h.0)
 below-from least most total (Err Ends) h = tt
 below-from least most total (Err (Breaks left reason)) h = h.0
 
-below-stops : {A : Type 0} (least most : ℕ) (read : Reader A) → Stops least most read → Ends-below read
+pub below-stops : {A : Type 0} (least most : ℕ) (read : Reader A) → Stops least most read → Ends-below read
 below-stops least most read h = record { at = λ bytes. below-from least most (length bytes) (read bytes) (h.at bytes) }
 
 lower : {A : Type 0} (front total : ℕ) (r : Reading A) → front ≤ total → IsBelow front r → IsBelow total r
@@ -122,7 +122,7 @@ follow-below total (Ok x) next h n = lower (length x.1) total (next x.0 x.1) h (
 follow-below total (Err Ends) next h n = tt
 follow-below total (Err (Breaks left reason)) next h n = h
 
-below-then : {A B : Type 0} (read : Reader A) (next : A → Reader B) → Ends-below read → ((x : A) → Ends-below (next x)) → Ends-below (read >>= next)
+pub below-then : {A B : Type 0} (read : Reader A) (next : A → Reader B) → Ends-below read → ((x : A) → Ends-below (next x)) → Ends-below (read >>= next)
 below-then read next h n = record { at = λ bytes. follow-below (length bytes) (read bytes) next (h.at bytes) n }
 
 below-done : {A : Type 0} (x : A) → Ends-below (done x)
@@ -289,16 +289,16 @@ field_at-within {B} w make reason bytes some =
           ])
     ]
 
-field_at-stops : {B : Type 0} (w : Width) (make : ℕ → Option B) (reason : Reason) → 0 < byte_len w → Stops 1 17 (field_at w make reason)
+pub field_at-stops : {B : Type 0} (w : Width) (make : ℕ → Option B) (reason : Reason) → 0 < byte_len w → Stops 1 17 (field_at w make reason)
 field_at-stops w make reason some = record { at = λ bytes. field_at-within w make reason bytes some }
 
 -- what was taken and what is left are what there was
-abbrev IsCut : (total : ℕ) → Reading (List ℕ) → Type 0
+abbrev pub IsCut : (total : ℕ) → Reading (List ℕ) → Type 0
 IsCut total (Ok x) = length x.0 + length x.1 ≡ total
 IsCut total (Err Ends) = Unit {0}
 IsCut total (Err (Breaks left reason)) = ⊥
 
-bytes_at-is : (n : ℕ) (bytes : List ℕ) → IsCut (length bytes) (bytes_at n bytes)
+pub bytes_at-is : (n : ℕ) (bytes : List ℕ) → IsCut (length bytes) (bytes_at n bytes)
 unfolding bytes_at
 bytes_at-is n bytes =
     elim (tested (ltb (length bytes) n)) [
@@ -343,7 +343,7 @@ proper-follow total (Ok x) next h n = proper-lower (length x.1) total (next x.0 
 proper-follow total (Err Ends) next h n = tt
 proper-follow total (Err (Breaks left reason)) next h n = h.0
 
-field_at-below : {B : Type 0} (w : Width) (make : ℕ → Option B) (reason : Reason) → 0 < byte_len w → Ends-below (field_at w make reason)
+pub field_at-below : {B : Type 0} (w : Width) (make : ℕ → Option B) (reason : Reason) → 0 < byte_len w → Ends-below (field_at w make reason)
 field_at-below w make reason some = below-stops 1 17 (field_at w make reason) (field_at-stops w make reason some)
 
 plain_at-proper : (bytes : List ℕ) → IsProper (length bytes) (plain_at bytes)

@@ -54,6 +54,11 @@ abbrev pub Gives : {X Y : Type 0} → (X → Y) → Result X DecodeError → Res
 Gives view (Ok x) read = read ≡ Ok (view x)
 Gives view (Err e) read = Fails e read
 
+-- what a function of the code that takes no memory returned, seen by view, is what is read
+abbrev pub Says : {X Y : Type 0} → (X → Y) → Result X Fault → Result Y Fault → Type 0
+Says view (Ok x) read = read ≡ Ok (view x)
+Says view (Err fault) read = read ≡ Err fault
+
 -- a sort of tokens: whether a token of this kind is one, and what the head of one says
 pub record Sort (A : Type 0) : Type 0 where
   pub begins : Kind → Bool

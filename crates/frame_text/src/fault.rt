@@ -1,6 +1,6 @@
 //! What ends a reading.
 
-ghost use Rattle.frame_text.specs.declared.fault.DecodeError.TheVariants.{Memory};
+ghost use Rattle.frame_text.specs.declared.fault.DecodeError.TheVariants as errors;
 ghost use Rattle.std.specs.Prelude.{◌≡◌};
 
 use wire_base::{OutOfMemory, Reason};
@@ -22,9 +22,17 @@ pub enum DecodeError {
 }
 
 impl From<OutOfMemory> for DecodeError {
-    ghost from_gives = { λ _ e. e ≡ Memory };
+    ghost from_gives = { λ _ e. e ≡ errors.Memory };
 
     fn from(_: OutOfMemory) -> DecodeError {
         DecodeError::Memory
+    }
+}
+
+impl From<Fault> for DecodeError {
+    ghost from_gives = { λ fault e. e ≡ errors.Fault fault };
+
+    fn from(fault: Fault) -> DecodeError {
+        DecodeError::Fault(fault)
     }
 }
