@@ -1,0 +1,4 @@
+pub mod Names
+pub mod FrameTexts
+pub mod Payloads
+pub mod Steps
