@@ -1,4 +1,5 @@
 pub mod Bodies
+pub mod Parties
 pub mod Items
 pub mod Lists
 pub mod Kept

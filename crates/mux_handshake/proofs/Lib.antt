@@ -1,0 +1,5 @@
+pub mod Stopping
+pub mod Taking
+pub mod Greater
+pub mod Steady
+pub mod Hellos

@@ -1,0 +1,38 @@
+//! Laws of handshakes.
+
+ghost use Rattle.frame_text.specs.Hello.{hello};
+ghost use Rattle.mux_handshake.specs.Handshake.{handshake, Whole, Short, Broken};
+ghost use Rattle.mux_items.specs.Parties.{party_by};
+ghost use Rattle.mux_items.specs.declared.party.Party.{Party};
+ghost use Rattle.std.specs.Prelude.{◌≡◌, ◌≢◌, ◌<◌, ◌≤◌, ◌-◌, ◌++◌, ℕ, List, length, take};
+ghost use Rattle.wire_base.specs.declared.frame.Version.{Version};
+ghost use Rattle.wire_base.specs.declared.frame.Version.TheVariants.{Three};
+ghost use Rattle.wire_base.specs.declared.reason.Reason.{Reason};
+ghost use Rattle.wire_base.specs.declared.reason.Reason.TheVariants.{SameNonce};
+
+/// What stands at the front stays so, whatever follows. Less than a whole handshake is the beginning of one. In versions
+/// 1 and 2 it takes a byte at least.
+#[tactic(auto, using(crate::proofs::Steady::steady))]
+pub fn handshake_is_steady()
+    ensures within { (v : Version) (own bytes : List ℕ) (party : Party) (size : ℕ) →
+        handshake v own bytes ≡ Whole party size → size ≤ length bytes }
+    ensures some { (v : Version) (own bytes : List ℕ) (party : Party) (size : ℕ) → v ≢ Three →
+        handshake v own bytes ≡ Whole party size → 0 < size }
+    ensures whole_stays { (v : Version) (own bytes more : List ℕ) (party : Party) (size : ℕ) →
+        handshake v own bytes ≡ Whole party size → handshake v own (bytes ++ more) ≡ Whole party size }
+    ensures broken_stays { (v : Version) (own bytes more : List ℕ) (offset : ℕ) (reason : Reason) →
+        handshake v own bytes ≡ Broken offset reason → handshake v own (bytes ++ more) ≡ Broken offset reason }
+    ensures whole_cut { (v : Version) (own a b : List ℕ) (party : Party) (size : ℕ) →
+        handshake v own (a ++ b) ≡ Whole party size → length a < size → handshake v own a ≡ Short }
+{}
+
+/// The peer's hello is a handshake, that of versions 1 and 2 once it is whole. Equal nonces are refused at the first byte of the peer's.
+#[tactic(auto, using(crate::proofs::Hellos::hellos))]
+pub fn hello_is_a_handshake()
+    ensures other { (v : Version) (own peer rest : List ℕ) → v ≢ Three → length peer ≡ 16 → own ≢ peer →
+        handshake v own (hello v peer ++ rest) ≡ Whole (party_by own peer) (length (hello v peer)) }
+    ensures same { (v : Version) (own rest : List ℕ) → v ≢ Three → length own ≡ 16 →
+        handshake v own (hello v own ++ rest) ≡ Broken (length (hello v own) - 16) SameNonce }
+    ensures cut { (v : Version) (own peer : List ℕ) (n : ℕ) → v ≢ Three → length peer ≡ 16 → n < length (hello v peer) →
+        handshake v own (take n (hello v peer)) ≡ Short }
+{}
