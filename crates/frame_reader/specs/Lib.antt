@@ -2,3 +2,4 @@ pub mod Unread
 pub mod Holds
 pub mod Answers
 pub mod Reads
+pub mod Any

@@ -3,7 +3,10 @@
 ghost use Rattle.frame_reader.specs.Answers.{Answers, RefusesAt};
 ghost use Rattle.frame_reader.specs.Reads.{Follows, Reads, given_with};
 ghost use Rattle.frame_reader.specs.Unread.{with_piece, without_front};
-ghost use Rattle.std.specs.Prelude.{◌≡◌, ◌+◌, ◌<◌, ◌≤◌, ◌^◌, ◌++◌, ◌⊎◌, ℕ, List, [], length, OnErr, OnOk};
+ghost use Rattle.frame_text.specs.Codec.{Decodes};
+ghost use Rattle.frame_text.specs.Frames.{fits};
+ghost use Rattle.frame_text.specs.Reading.{front};
+ghost use Rattle.std.specs.Prelude.{◌≡◌, ◌+◌, ◌<◌, ◌≤◌, ◌^◌, ◌++◌, ◌⊎◌, ℕ, List, [], length, true, OnErr, OnOk};
 ghost use Rattle.wire_base.specs.declared.frame.Frame.{Frame};
 ghost use Rattle.wire_base.specs.declared.place.Place.{Place};
 ghost use Rattle.wire_base.specs.declared.reason.Reason.{Reason};
@@ -37,6 +40,15 @@ impl<C: FrameCodec> Model for FrameReader<C> {
     ghost view = { λ r. record { version = C.version r.codec; at = r.at.0; rest = drop r.given r.bytes.items; fed = r.fed } };
 
     ghost invariant = { λ r. Holds r.bytes.items r.given r.at.0 r.fed };
+}
+
+/// What stands at the front of these bytes, whose first byte stands at this place.
+fn front<C: FrameCodec>(alloc: Global, codec: &C, bytes: &[u8], at: Place) -> FrameStep
+    requires { at.0 ≤ 2 ^ 63 }
+    ensures answer { Decodes result bytes.now at (front (C.version codec.now) bytes.now) }
+    ensures fits { (frame : Frame) (size : ℕ) → result ≡ FrameStep.Got frame size → fits (C.version codec.now) frame ≡ true }
+{
+    codec.decode(alloc, bytes, at)
 }
 
 impl<C: FrameCodec> FrameReader<C> {
@@ -85,20 +97,49 @@ impl<C: FrameCodec> FrameReader<C> {
         ensures reads { (start : ℕ) (stream : List ℕ) (given : List (ℕ × Frame)) → Reads self.old start stream given →
             Reads self.new start stream (given_with result given) }
     {
-        // A frame that isn't whole is looked at again from its first byte, which costs its heads: a payload is copied once it is whole.
-        match self
-            .codec
-            .decode(self.alloc, &self.bytes[self.given..], self.at)
-        {
+        match self.front() {
             FrameStep::Got(frame, size) => {
                 let place = self.at;
-                self.give(size);
+                self.skip(size);
                 Next::Frame(place, frame)
             }
             FrameStep::Short => Next::Short,
             FrameStep::Refused(place, reason) => Next::Refused(place, reason),
             FrameStep::OutOfMemory => Next::OutOfMemory,
         }
+    }
+
+    /// What stands at the front of the bytes that weren't given, which stay. A frame that isn't whole is looked at
+    /// again from its first byte, which costs its heads: a payload is copied once it is whole.
+    pub fn front(&self) -> FrameStep
+        ensures answer { Decodes result self.now.rest (record { 0 = self.now.at }) (front self.now.version self.now.rest) }
+        ensures fits { (frame : Frame) (size : ℕ) → result ≡ FrameStep.Got frame size → fits self.now.version frame ≡ true }
+    {
+        front(self.alloc, &self.codec, self.unread(), self.at)
+    }
+
+    /// So many bytes at the front are given: the reader goes on behind them.
+    pub fn skip(&mut self, size: usize)
+        requires { size ≤ length self.old.rest }
+        ensures { self.new ≡ without_front size self.old }
+    {
+        self.given += size;
+        self.at = Place(self.at.0 + size as u64);
+        self.forget_given();
+    }
+
+    /// The bytes that weren't given.
+    pub fn unread(&self) -> &[u8]
+        ensures { result.now ≡ self.now.rest }
+    {
+        &self.bytes[self.given..]
+    }
+
+    /// The place of the first byte that wasn't given.
+    pub fn place(&self) -> Place
+        ensures { result.0 ≡ self.now.at }
+    {
+        self.at
     }
 
     /// How many bytes were fed and are not part of a frame that was given.
@@ -113,16 +154,6 @@ impl<C: FrameCodec> FrameReader<C> {
         ensures { result ≡ self.now.fed }
     {
         self.fed
-    }
-
-    /// So many more bytes are given.
-    fn give(&mut self, size: usize)
-        requires { size ≤ length self.old.rest }
-        ensures { self.new ≡ without_front size self.old }
-    {
-        self.given += size;
-        self.at = Place(self.at.0 + size as u64);
-        self.forget_given();
     }
 
     /// Lets the given bytes go once they are half of all, so that no more bytes are moved than were given.

@@ -9,12 +9,12 @@ pub returns-in-Got-clause-follows : goal.returns-in-Got-clause-follows
 returns-in-Got-clause-follows g c = λ start stream given h.
     let old = c.args.self.now in
     let answer = next.Frame c.self.inside.at c.in-Got.frame in
-    let a : Answers answer old c.give.new.self = (c.in-Got.size, grind (arith, common_steps, c.in-Got.ensures), grind (arith, common_steps), search rules) in
-    answer-follows answer old c.give.new.self start stream given a h
+    let a : Answers answer old c.skip.new.self = (c.in-Got.size, grind (arith, common_steps, c.in-Got.ensures), grind (arith, common_steps), search rules) in
+    answer-follows answer old c.skip.new.self start stream given a h
 
 pub returns-in-Got-clause-reads : goal.returns-in-Got-clause-reads
 returns-in-Got-clause-reads g c = λ start stream given h.
     let old = c.args.self.now in
     let answer = next.Frame c.self.inside.at c.in-Got.frame in
-    let a : Answers answer old c.give.new.self = (c.in-Got.size, grind (arith, common_steps, c.in-Got.ensures), grind (arith, common_steps), search rules) in
-    reads-answer answer old c.give.new.self start stream given a h
+    let a : Answers answer old c.skip.new.self = (c.in-Got.size, grind (arith, common_steps, c.in-Got.ensures), grind (arith, common_steps), search rules) in
+    reads-answer answer old c.skip.new.self start stream given a h
