@@ -17,7 +17,8 @@ use Rattle.mux_items.specs.Items.{Item, Hello, Got, Rejected, End, is_running, g
 use Rattle.mux_items.specs.Due.{sent, got}
 use Rattle.mux_items.specs.Refusals.{is_ready, is_greeted, frame_refusal}
 use Rattle.mux_items.specs.Applying.{apply_frame, after_frame, is_refused_room, place_at}
-use Rattle.mux_run.specs.Run.{Half, World, Terms, Ways, ways_a, ways_b, turned, greeting_size, whole_frames, next_frames, place_after, party_by, greet, greeted, apply_frames, settled, call_refusal, item_of_call, unless_refused, called, added, is_spent, delivered_to, half_after, side_of, happens_at, happens, fresh, start, run_from, run}
+use Rattle.mux_items.specs.Parties.{party_by}
+use Rattle.mux_run.specs.Run.{Half, World, Terms, Ways, ways_a, ways_b, turned, greeting_size, whole_frames, next_frames, place_after, greet, greeted, apply_frames, settled, call_refusal, item_of_call, unless_refused, called, added, is_spent, delivered_to, half_after, side_of, happens_at, happens, fresh, start, run_from, run}
 use Rattle.mux_run.specs.Linked.{Linked, Joined}
 use Rattle.mux_run.specs.Fed.{LieWithin, IsFed, AreFed}
 use Rattle.mux_run.specs.declared.steps.Side.{Side}

@@ -18,7 +18,8 @@ use Rattle.mux_items.specs.Items.{Item, Hello, Got, Rejected, End, is_running, g
 use Rattle.mux_items.specs.Due.{due, sent, got}
 use Rattle.mux_items.specs.Refusals.{is_ready, is_greeted, frame_refusal}
 use Rattle.mux_items.specs.Applying.{Allowed, apply_frame, after_frame, item_of_frame, is_refused_room, place_at}
-use Rattle.mux_run.specs.Run.{Half, Ways, out, greeting_size, party_by, greet, greeted, apply_frames, whole_frames, next_frames, place_after, settled, call_refusal, item_of_call, unless_refused, called, added, is_spent, half_after}
+use Rattle.mux_items.specs.Parties.{party_by}
+use Rattle.mux_run.specs.Run.{Half, Ways, out, greeting_size, greet, greeted, apply_frames, whole_frames, next_frames, place_after, settled, call_refusal, item_of_call, unless_refused, called, added, is_spent, half_after}
 use Rattle.mux_run.specs.declared.steps.Call.{Call}
 use Rattle.mux_run.specs.declared.steps.Call.TheVariants as call
 use Rattle.mux_run.specs.declared.steps.Step.{Step}

@@ -19,7 +19,8 @@ use Rattle.mux_items.specs.Kept.{keys, is_kept, kept_keys, own_offers, most_chan
 use Rattle.mux_items.specs.Due.{got}
 use Rattle.mux_items.specs.Refusals.{frame_refusal, is_ready}
 use Rattle.mux_items.specs.Applying.{is_offer, is_refused_room, place_at, after_frame, apply_frame}
-use Rattle.mux_run.specs.Run.{Half, World, Terms, Ways, ways_a, ways_b, greeting_size, party_by, greet, greeted, apply_frames, next_frames, place_after, settled, call_refusal, item_of_call, unless_refused, called, added, is_spent, delivered_to, half_after, side_of, happens_at, happens, start, run_from, run}
+use Rattle.mux_items.specs.Parties.{party_by}
+use Rattle.mux_run.specs.Run.{Half, World, Terms, Ways, ways_a, ways_b, greeting_size, greet, greeted, apply_frames, next_frames, place_after, settled, call_refusal, item_of_call, unless_refused, called, added, is_spent, delivered_to, half_after, side_of, happens_at, happens, start, run_from, run}
 use Rattle.mux_run.specs.Linked.{Linked, Joined}
 use Rattle.mux_run.specs.Built.{AreBuilt, is_built_step, is_built_call, is_offer_step, is_offer_call}
 use Rattle.mux_run.specs.Plain.{is_plain_body, is_plain_frame, is_plain_item, ArePlain, heard_offers, IsPlainSide, IsPlainRun, IsPlainWay, IsPlainNext, begun, IsPlainStepOn}
@@ -164,13 +165,13 @@ pub record CalledPlain (c : Call) (before after : List Item) : Type 0 where
   pub each : ArePlain after
   pub own : own_offers after ≤ own_offers before + one_if (is_offer_call c)
 
-pub plain_called : (v : Version) (side : Side) (c : Call) (items : List Item) → is_built_call side c ≡ true → ArePlain items → CalledPlain c items (called v c items)
-plain_called v side c items built e = elim (call_refusal v c items) as (λ r. CalledPlain c items (unless_refused r (item_of_call c items) items)) [
+pub plain_called : (v : Version) (c : Call) (items : List Item) → is_built_call c ≡ true → ArePlain items → CalledPlain c items (called v c items)
+plain_called v c items built e = elim (call_refusal v c items) as (λ r. CalledPlain c items (unless_refused r (item_of_call c items) items)) [
   | Some refusal ↦ record { each = e; own = omega arith }
   | None ↦ by c built
 ]
   where
-    by : (c : Call) → is_built_call side c ≡ true → CalledPlain c items (item_of_call c items ∷ items)
+    by : (c : Call) → is_built_call c ≡ true → CalledPlain c items (item_of_call c items ∷ items)
     by (call.Offer name size) built = record { each = e; own = omega arith }
     by (call.Accept key size) built = record { each = e; own = omega arith }
     by (call.Write key bytes) built = record { each = e; own = omega arith }
@@ -195,7 +196,7 @@ pub record StepPlain (s : Step) (before after : List Item) : Type 0 where
 pub plain_begun : (w : Ways) (s : Step) (x y : Half) → Joined w x y → is_built_step s ≡ true → ArePlain x.items → ArePlain y.items → own_offers x.items + one_if (is_offer_step s) + own_offers y.items ≤ 1
     → IsPlainWay w.version (begun w.version s x.items) y.items []
 plain_begun w (step.Call side c) x y j built plain plain_peer one =
-    let p = plain_called w.version side c x.items built plain in
+    let p = plain_called w.version c x.items built plain in
     linked_way w (record { items = called w.version c x.items; delivered = x.delivered }) y (called_joined w c x y j).into p.each plain_peer (omega arith)
 plain_begun w (step.Deliver side n) x y j built plain plain_peer one = linked_way w x y j.into plain plain_peer (omega arith)
 plain_begun w (step.End side) x y j built plain plain_peer one = linked_way w x y j.into plain plain_peer (omega arith)
@@ -203,7 +204,7 @@ plain_begun w (step.End side) x y j built plain plain_peer one = linked_way w x 
 pub half_after_plain : (w : Ways) (s : Step) (x y : Half) → Joined w x y → is_built_step s ≡ true → ArePlain x.items → ArePlain y.items → own_offers x.items + one_if (is_offer_step s) + own_offers y.items ≤ 1
     → StepPlain s x.items (half_after w s x y).items
 half_after_plain w (step.Call side c) x y j built plain plain_peer one =
-    let p = plain_called w.version side c x.items built plain in
+    let p = plain_called w.version c x.items built plain in
     let on = plain_settled w x.delivered (called w.version c x.items) y (plain_begun w (step.Call side c) x y j built plain plain_peer one) in
     record { each = on.each; own = omega (arith, on.own, p.own) }
 half_after_plain w (step.Deliver side n) x y j built plain plain_peer one =
@@ -216,44 +217,31 @@ half_after_plain w (step.End side) x y j built plain plain_peer one = cc
 pub record PlainWorld (n : ℕ) (w : World) : Type 0 where
   pub a : ArePlain w.a.items
   pub b : ArePlain w.b.items
-  pub own_a : own_offers w.a.items ≤ n
-  pub own_b : own_offers w.b.items ≤ 0
+  pub offers : own_offers w.a.items + own_offers w.b.items ≤ n
 
-offers_of_a : (s : Step) → is_built_step s ≡ true → side_of s ≡ B → one_if (is_offer_step s) ≡ 0
-offers_of_a (step.Call A c) built e = cc
-offers_of_a (step.Call B (call.Offer name size)) built e = cc
-offers_of_a (step.Call B (call.Accept key size)) built e = refl
-offers_of_a (step.Call B (call.Write key bytes)) built e = refl
-offers_of_a (step.Call B (call.Read key max)) built e = refl
-offers_of_a (step.Call B (call.Complete key)) built e = refl
-offers_of_a (step.Call B (call.Terminate key)) built e = refl
-offers_of_a (step.Deliver side n) built e = refl
-offers_of_a (step.End side) built e = refl
-
-happens_plain : (terms : Terms) (s : Step) (side : Side) (w : World) (n : ℕ) → side_of s ≡ side → Joined (ways_a terms) w.a w.b → PlainWorld n w → is_built_step s ≡ true → n + one_if (is_offer_step s) ≤ 1
+happens_plain : (terms : Terms) (side : Side) (s : Step) (w : World) (n : ℕ) → Joined (ways_a terms) w.a w.b → PlainWorld n w → is_built_step s ≡ true → n + one_if (is_offer_step s) ≤ 1
     → PlainWorld (n + one_if (is_offer_step s)) (happens_at terms side s w)
-happens_plain terms s A w n at j p built one =
-    let on = half_after_plain (ways_a terms) s w.a w.b j built p.a p.b (omega (arith, p.own_a, p.own_b)) in
-    record { a = on.each; b = p.b; own_a = omega (arith, on.own, p.own_a); own_b = p.own_b }
-happens_plain terms s B w n at j p built one =
-    let none = offers_of_a s built at in
-    let on = half_after_plain (ways_b terms) s w.b w.a (turned_joined (ways_a terms) w.a w.b j) built p.b p.a (omega (arith, p.own_a, p.own_b)) in
-    record { a = p.a; b = on.each; own_a = omega (arith, p.own_a); own_b = omega (arith, on.own, p.own_b, none) }
+happens_plain terms A s w n j p built one =
+    let on = half_after_plain (ways_a terms) s w.a w.b j built p.a p.b (omega (arith, p.offers)) in
+    record { a = on.each; b = p.b; offers = omega (arith, on.own, p.offers) }
+happens_plain terms B s w n j p built one =
+    let on = half_after_plain (ways_b terms) s w.b w.a (turned_joined (ways_a terms) w.a w.b j) built p.b p.a (omega (arith, p.offers)) in
+    record { a = p.a; b = on.each; offers = omega (arith, on.own, p.offers) }
 
 run_from_plain : (terms : Terms) (w : World) (steps : List Step) (n : ℕ) → Joined (ways_a terms) w.a w.b → PlainWorld n w → list_all is_built_step steps ≡ true → n + count_by is_offer_step steps ≤ 1
     → PlainWorld (n + count_by is_offer_step steps) (run_from terms w steps)
-run_from_plain terms w [] n j p built one = record { a = p.a; b = p.b; own_a = omega (arith, p.own_a); own_b = p.own_b }
+run_from_plain terms w [] n j p built one = record { a = p.a; b = p.b; offers = omega (arith, p.offers) }
 run_from_plain terms w (s ∷ steps) n j p built one =
     let both = and_parts (is_built_step s) (list_all is_built_step steps) built in
     let m = n + one_if (is_offer_step s) in
     let count : count_by is_offer_step (s ∷ steps) ≡ one_if (is_offer_step s) + count_by is_offer_step steps = sum_by-cons (λ s. cond (is_offer_step s) 1 0) s steps in
-    let on = run_from_plain terms (happens terms s w) steps m (happens_joined terms s (side_of s) w j) (happens_plain terms s (side_of s) w n refl j p both.0 (omega (arith, count))) both.1 (omega (arith, count)) in
-    record { a = on.a; b = on.b; own_a = omega (arith, on.own_a, count); own_b = on.own_b }
+    let on = run_from_plain terms (happens terms s w) steps m (happens_joined terms s (side_of s) w j) (happens_plain terms (side_of s) s w n j p both.0 (omega (arith, count))) both.1 (omega (arith, count)) in
+    record { a = on.a; b = on.b; offers = omega (arith, on.offers, count) }
 
 pub run_plain : (terms : Terms) (steps : List Step) → AreBuilt steps → PlainWorld (count_by is_offer_step steps) (run terms steps)
 run_plain terms steps built =
-    let on = run_from_plain terms start steps 0 (fresh_joined (ways_a terms)) (record { a = refl; b = refl; own_a = omega arith; own_b = omega arith }) built.each (omega (arith, built.one_offer)) in
-    record { a = on.a; b = on.b; own_a = omega (arith, on.own_a); own_b = on.own_b }
+    let on = run_from_plain terms start steps 0 (fresh_joined (ways_a terms)) (record { a = refl; b = refl; offers = omega arith }) built.each (omega (arith, built.one_offer)) in
+    record { a = on.a; b = on.b; offers = omega (arith, on.offers) }
 
 -- what came to x was offered by y
 pub heard_own : (w : Ways) (x y : Half) → Linked w x y → ArePlain y.items → heard_offers x.items ≤ own_offers y.items
@@ -261,20 +249,21 @@ heard_own w x y l plain_peer =
     let front = map flip (got x.items) in
     omega (arith, heard_got x.items, offers-flip (got x.items), offers-append front l.ahead, ap offers l.applied, sent_offers w.version y.items plain_peer)
 
--- in a run of built steps no channel ends, and offers are made by A alone
+-- in a run of built steps no channel ends, and no more offers are made than the steps have
 pub built_run : (terms : Terms) (steps : List Step) → AreBuilt steps → IsPlainRun steps (run terms steps)
 built_run terms steps built =
     let w = run terms steps in
     let p = run_plain terms steps built in
     let j = run_joined terms steps in
     record {
-      a = record { each = p.a; own = p.own_a; heard = omega (arith, heard_own (ways_a terms) w.a w.b j.into p.b, p.own_b) };
-      b = record { each = p.b; own = p.own_b; heard = omega (arith, heard_own (ways_b terms) w.b w.a j.back p.a, p.own_a) };
+      a = record { each = p.a; heard = heard_own (ways_a terms) w.a w.b j.into p.b };
+      b = record { each = p.b; heard = heard_own (ways_b terms) w.b w.a j.back p.a };
+      offers = p.offers;
     }
 
--- so each side has one channel at most
-pub plain_keys : (here there : ℕ) (items : List Item) → IsPlainSide here there items → length (keys items) ≤ here + there
-plain_keys here there items p = omega (arith, keys_count items, p.own, p.heard)
+-- each channel of a side was offered by it or by its peer
+pub plain_keys : (there : ℕ) (items : List Item) → IsPlainSide there items → length (keys items) ≤ own_offers items + there
+plain_keys there items p = omega (arith, keys_count items, p.heard)
 
 -- the steps before the last are built too
 pub built_front : (steps : List Step) (s : Step) → AreBuilt (steps ++ s ∷ []) → AreBuilt steps
@@ -291,28 +280,27 @@ built_last steps s built =
       omega (arith, built.one_offer, count, sum_by-append (λ s. cond (is_offer_step s) 1 0) steps (s ∷ [])),
     )
 
-no_keys : (here there : ℕ) (s : Step) (items : List Item) → IsPlainSide here there items → here + there + one_if (is_offer_step s) ≤ 1 → is_offer_step s ≡ true → keys items ≡ []
-no_keys here there s items p one e =
+no_keys : (there : ℕ) (s : Step) (items : List Item) → IsPlainSide there items → own_offers items + there + one_if (is_offer_step s) ≤ 1 → is_offer_step s ≡ true → keys items ≡ []
+no_keys there s items p one e =
     let more : one_if (is_offer_step s) ≡ 1 = ap one_if e in
-    nil_from_length (keys items) (omega (arith, plain_keys here there items p, one, more))
+    nil_from_length (keys items) (omega (arith, plain_keys there items p, one, more))
 
-built_step_on : (terms : Terms) (side : Side) (s : Step) (w : World) (n : ℕ) → side_of s ≡ side → Joined (ways_a terms) w.a w.b → IsPlainSide n 0 w.a.items → IsPlainSide 0 n w.b.items → is_built_step s ≡ true → n + one_if (is_offer_step s) ≤ 1
-    → IsPlainStepOn terms side s w
-built_step_on terms A s w n at j a b built one = record {
-  way = plain_begun (ways_a terms) s w.a w.b j built a.each b.each (omega (arith, a.own, b.own));
-  first = no_keys n 0 s w.a.items a (omega arith);
-  first_peer = no_keys 0 n s w.b.items b (omega arith);
+built_step_on : (terms : Terms) (side : Side) (steps : List Step) (s : Step) (w : World) → Joined (ways_a terms) w.a w.b → IsPlainRun steps w → is_built_step s ≡ true
+    → count_by is_offer_step steps + one_if (is_offer_step s) ≤ 1 → IsPlainStepOn terms side s w
+built_step_on terms A steps s w j p built one = record {
+  way = plain_begun (ways_a terms) s w.a w.b j built p.a.each p.b.each (omega (arith, p.offers));
+  first = no_keys (own_offers w.b.items) s w.a.items p.a (omega (arith, p.offers));
+  first_peer = no_keys (own_offers w.a.items) s w.b.items p.b (omega (arith, p.offers));
 }
-built_step_on terms B s w n at j a b built one = record {
-  way = plain_begun (ways_b terms) s w.b w.a (turned_joined (ways_a terms) w.a w.b j) built b.each a.each (omega (arith, a.own, b.own, offers_of_a s built at));
-  first = no_keys 0 n s w.b.items b (omega arith);
-  first_peer = no_keys n 0 s w.a.items a (omega arith);
+built_step_on terms B steps s w j p built one = record {
+  way = plain_begun (ways_b terms) s w.b w.a (turned_joined (ways_a terms) w.a w.b j) built p.b.each p.a.each (omega (arith, p.offers));
+  first = no_keys (own_offers w.a.items) s w.b.items p.b (omega (arith, p.offers));
+  first_peer = no_keys (own_offers w.b.items) s w.a.items p.a (omega (arith, p.offers));
 }
 
 -- the next step of built steps, as it begins
 pub built_step : (terms : Terms) (steps : List Step) (s : Step) → AreBuilt (steps ++ s ∷ []) → IsPlainStepOn terms (side_of s) s (run terms steps)
 built_step terms steps s built =
     let w = run terms steps in
-    let p = built_run terms steps (built_front steps s built) in
     let last = built_last steps s built in
-    built_step_on terms (side_of s) s w (count_by is_offer_step steps) refl (run_joined terms steps) p.a p.b last.0 last.1
+    built_step_on terms (side_of s) steps s w (run_joined terms steps) (built_run terms steps (built_front steps s built)) last.0 last.1

@@ -1,4 +1,4 @@
--- What holds of the items of built steps: one channel, offered by A, that stays open.
+-- What holds of the items of built steps: one channel, offered by either side, that stays open.
 use Rattle.std.specs.Prelude.{◌≡◌, ◌≤◌, ℕ, ◌+◌, List, [], ◌∷◌, ◌++◌, map, Bool, true, false, count_by}
 use Rattle.std.specs.List.{list_all}
 use Rattle.wire_base.specs.declared.frame.Version.{Version}
@@ -48,16 +48,16 @@ heard_offers [] = 0
 heard_offers (Got place key (Offer name size) ∷ items) = heard_offers items + 1
 heard_offers (item ∷ items) = heard_offers items
 
--- one side of a run of built steps, in which so many offers were made here, and so many by the peer
-pub record IsPlainSide (here there : ℕ) (items : List Item) : Type 0 where
+-- one side of a run of built steps, whose peer made so many offers: it heard no more than those
+pub record IsPlainSide (there : ℕ) (items : List Item) : Type 0 where
   pub each : ArePlain items
-  pub own : own_offers items ≤ here
   pub heard : heard_offers items ≤ there
 
--- only A makes offers, at most as many as the steps have
+-- both sides together made at most as many offers as the steps have
 pub record IsPlainRun (steps : List Step) (w : World) : Type 0 where
-  pub a : IsPlainSide (count_by is_offer_step steps) 0 w.a.items
-  pub b : IsPlainSide 0 (count_by is_offer_step steps) w.b.items
+  pub a : IsPlainSide (own_offers w.b.items) w.a.items
+  pub b : IsPlainSide (own_offers w.a.items) w.b.items
+  pub offers : own_offers w.a.items + own_offers w.b.items ≤ count_by is_offer_step steps
 
 -- at these items, these frames of a peer with its items come next: neither side ends a channel, and one offer is made at most
 pub record IsPlainWay (v : Version) (items peer : List Item) (frames : List ChannelFrame) : Type 0 where

@@ -1,14 +1,13 @@
 -- The run of a list of steps: what happened at each of two joined ends.
-use Rattle.std.specs.Prelude.{ℕ, ◌+◌, ◌-◌, min, List, [], ◌∷◌, ◌++◌, length, take, drop, Bool, true, false, not, ◌&&◌, nat_lt, nat_le, if◌then◌else◌, Option, Some, None}
+use Rattle.std.specs.Prelude.{ℕ, ◌+◌, ◌-◌, min, List, [], ◌∷◌, ◌++◌, length, take, drop, slice_index_or, Bool, not, ◌&&◌, nat_lt, nat_le, if◌then◌else◌, Option, Some, None}
 use Rattle.std.specs.Str.{bytes_eq}
 use Rattle.wire_base.specs.declared.frame.Version.{Version}
 use Rattle.wire_base.specs.declared.reason.Reason.TheVariants as reason
 use Rattle.wire_base.specs.declared.state.Cause.TheVariants as cause
 use Rattle.frame_text.specs.Hello.{hello}
-use Rattle.mux_items.specs.declared.party.Party.{Party}
-use Rattle.mux_items.specs.declared.party.Party.TheVariants.{Odd, Even}
 use Rattle.mux_items.specs.Bodies.{ChannelFrame, flip, frame_text, frame_texts}
 use Rattle.mux_items.specs.Items.{Item, Hello, DidOffer, DidAccept, DidWrite, DidRead, DidComplete, DidTerminate, End, is_running}
+use Rattle.mux_items.specs.Parties.{party_by}
 use Rattle.mux_items.specs.Kept.{next_key}
 use Rattle.mux_items.specs.Due.{sent, got}
 use Rattle.mux_items.specs.Refusals.{is_ready, most_bytes, offer_refusal, accept_refusal, write_refusal, read_refusal, complete_refusal, terminate_refusal}
@@ -35,6 +34,10 @@ pub record Terms : Type 0 where
   pub version : Version
   pub nonce_a : List ℕ
   pub nonce_b : List ℕ
+
+-- the nonces are those of A and of B
+abbrev pub terms_of : Version → (nonces : List (List ℕ)) → Terms
+terms_of v nonces = record { version = v; nonce_a = slice_index_or nonces 0 []; nonce_b = slice_index_or nonces 1 [] }
 
 -- the same terms as the side X of a pair X, Y sees them
 pub record Ways : Type 0 where
@@ -67,15 +70,6 @@ in_flight w x y = drop x.delivered (out w.version w.peer y.items)
 abbrev pub whole_frames : Version → ℕ → List ChannelFrame → List ChannelFrame
 whole_frames v n [] = []
 whole_frames v n (f ∷ fs) = if nat_le (length (frame_text v f)) n then f ∷ whole_frames v (n - length (frame_text v f)) fs else []
-
--- the side with the greater nonce, at the first byte that differs, is Odd
-abbrev pub is_greater : List ℕ → List ℕ → Bool
-is_greater [] other = false
-is_greater (x ∷ xs) [] = true
-is_greater (x ∷ xs) (y ∷ ys) = if nat_lt y x then true else if nat_lt x y then false else is_greater xs ys
-
-abbrev pub party_by : (own peer : List ℕ) → Party
-party_by own peer = if is_greater own peer then Odd else Even
 
 -- the item of the peer's whole handshake: nonces must differ
 abbrev pub greet : Ways → Item
