@@ -6,15 +6,14 @@ use Rattle.std.proofs.lemmas.Bool.{lt-ltb, le-leb}
 use Rattle.std.proofs.lemmas.Str.{is_utf8-from_IsUtf8}
 use Rattle.wire_base.specs.declared.frame.Version.{Version}
 use Rattle.wire_base.specs.declared.frame.Version.TheVariants as version
-use Rattle.frame_text.specs.Codec.{is_packed}
 use Rattle.frame_text.specs.Heads.{unsigned_text, str_head}
 use Rattle.frame_text.specs.Frames.{fits, fits_code, fits_id, fits_origin, fits_length, payload_text}
 use Rattle.wire_base.specs.declared.frame.Code.TheVariants as code
 use Rattle.wire_base.specs.declared.frame.Origin.TheVariants as origin
-use Rattle.wire_base.specs.declared.frame.Payload.{Payload}
 use Rattle.wire_base.specs.declared.frame.Payload.TheVariants as payload
 use Rattle.mux_items.specs.declared.channel.ChannelKey.{ChannelKey}
-use Rattle.mux_items.specs.Bodies.{FrameBody, Offer, OfferAccepted, Content, ContentProcessed, frame_on, frame_of, origin_of, code_of, payload_of}
+use Rattle.mux_items.specs.Bodies.{FrameBody, Offer, OfferAccepted, Content, ContentProcessed, frame_on, frame_of, is_one, origin_of, code_of, payload_of}
+use Rattle.mux_items.specs.Due.{written_window}
 
 -- a choice of two short lists is short
 short_choice : (b : Bool) (xs ys : List ℕ) (most : ℕ) → length xs ≤ most → length ys ≤ most → length (if b then xs else ys) ≤ most
@@ -37,46 +36,37 @@ str_head_short n =
 all_four : (a b c d : Bool) → a ≡ true → b ≡ true → c ≡ true → d ≡ true → (a && b && c && d) ≡ true
 all_four a b c d p q r s = cc
 
-id_fits : (v : Version) (id : ℕ) → is_packed v ≡ true → 0 < id → id < 0x8000000000000000 → fits_id v id ≡ true
-id_fits version.One id p a b = absurd cc
-id_fits version.Two id p a b = rw (lt-ltb 0 id a, lt-ltb id 0x8000000000000000 b) refl
-id_fits version.Three id p a b = rw (lt-ltb 0 id a, lt-ltb id 0x8000000000000000 b) refl
-
 side_fits : (own : Bool) → fits_origin version.Three (if own then origin.Sender else origin.Receiver) ≡ true
 side_fits true = refl
 side_fits false = refl
 
-origin_fits : (v : Version) (key : ChannelKey) → is_packed v ≡ true → fits_origin v (origin_of v key) ≡ true
-origin_fits version.One key p = absurd cc
-origin_fits version.Two key p = refl
-origin_fits version.Three key p = side_fits key.own
+origin_fits : (v : Version) (key : ChannelKey) → fits_origin v (origin_of v key) ≡ true
+origin_fits version.One key = refl
+origin_fits version.Two key = refl
+origin_fits version.Three key = side_fits key.own
 
 -- a body whose code, and whose payload's length, fit
-body_fits : (v : Version) (key : ChannelKey) (body : FrameBody) → is_packed v ≡ true → 0 < key.id → key.id < 0x8000000000000000
+body_fits : (v : Version) (key : ChannelKey) (body : FrameBody) → fits_id v key.id ≡ true
     → fits_code v (code_of body) (payload_of body) ≡ true → fits_length v (payload_of body) ≡ true → fits v (frame_of v (frame_on key body)) ≡ true
-body_fits v key body p a b code long = all_four _ _ _ _ code (id_fits v key.id p a b) (origin_fits v key p) long
+body_fits v key body id code long = all_four _ _ _ _ code id (origin_fits v key) long
 
-length_fits : (v : Version) (body : Payload) → is_packed v ≡ true → length (payload_text body) ≤ 0x100000 → fits_length v body ≡ true
-length_fits version.One body p short = absurd cc
-length_fits version.Two body p short = le-leb _ _ short
-length_fits version.Three body p short = le-leb _ _ short
+code_fits_offer : (v : Version) (name : List ℕ) (window : ℕ) → is_utf8 name ≡ true → window < 0x8000000000000000
+    → fits_code v code.Offer (payload.Offer name (written_window v window)) ≡ true
+code_fits_offer version.One name window u w = rw u refl
+code_fits_offer version.Two name window u w = rw (u, lt-ltb window 0x8000000000000000 w) refl
+code_fits_offer version.Three name window u w = rw (u, lt-ltb window 0x8000000000000000 w) refl
 
-code_fits_offer : (v : Version) (name : List ℕ) (window : ℕ) → is_packed v ≡ true → is_utf8 name ≡ true → window < 0x8000000000000000 → fits_code v code.Offer (payload.Offer name (Some window)) ≡ true
-code_fits_offer version.One name window p u w = absurd cc
-code_fits_offer version.Two name window p u w = rw (u, lt-ltb window 0x8000000000000000 w) refl
-code_fits_offer version.Three name window p u w = rw (u, lt-ltb window 0x8000000000000000 w) refl
-
-code_fits_accepted : (v : Version) (window : ℕ) → is_packed v ≡ true → window < 0x8000000000000000 → fits_code v code.OfferAccepted (payload.Accepted (Some window)) ≡ true
-code_fits_accepted version.One window p w = absurd cc
-code_fits_accepted version.Two window p w = lt-ltb window 0x8000000000000000 w
-code_fits_accepted version.Three window p w = lt-ltb window 0x8000000000000000 w
+code_fits_accepted : (v : Version) (window : ℕ) → window < 0x8000000000000000 → fits_code v code.OfferAccepted (payload.Accepted (written_window v window)) ≡ true
+code_fits_accepted version.One window w = refl
+code_fits_accepted version.Two window w = lt-ltb window 0x8000000000000000 w
+code_fits_accepted version.Three window w = lt-ltb window 0x8000000000000000 w
 
 code_fits_content : (v : Version) (bytes : List ℕ) → fits_code v code.Content (payload.Content bytes) ≡ true
 code_fits_content version.One bytes = refl
 code_fits_content version.Two bytes = refl
 code_fits_content version.Three bytes = refl
 
-code_fits_processed : (v : Version) (count : ℕ) → is_packed v ≡ true → count < 0x8000000000000000 → fits_code v code.ContentProcessed (payload.Processed count) ≡ true
+code_fits_processed : (v : Version) (count : ℕ) → is_one v ≡ false → count < 0x8000000000000000 → fits_code v code.ContentProcessed (payload.Processed count) ≡ true
 code_fits_processed version.One count p w = absurd cc
 code_fits_processed version.Two count p w = lt-ltb count 0x8000000000000000 w
 code_fits_processed version.Three count p w = lt-ltb count 0x8000000000000000 w
@@ -84,23 +74,41 @@ code_fits_processed version.Three count p w = lt-ltb count 0x8000000000000000 w
 name_short : (name : List ℕ) (window : ℕ) → length name ≤ 1024 → length (payload_text (payload.Offer name (Some window))) ≤ 0x100000
 name_short name window short = simp length-append (omega (arith, unsigned_short window, str_head_short (length name)))
 
-pub fits_offer : (v : Version) (key : ChannelKey) (name : List ℕ) (window : ℕ) → is_packed v ≡ true → 0 < key.id → key.id < 0x8000000000000000
-    → is_utf8 name ≡ true → length name ≤ 1024 → window < 0x8000000000000000 → fits v (frame_of v (frame_on key (Offer name (Some window)))) ≡ true
-fits_offer v key name window p a b u short w =
-    body_fits v key (Offer name (Some window)) p a b (code_fits_offer v name window p u w) (length_fits v _ p (name_short name window short))
+length_fits_offer : (v : Version) (name : List ℕ) (window : ℕ) → length name ≤ 1024 → fits_length v (payload.Offer name (written_window v window)) ≡ true
+length_fits_offer version.One name window short = le-leb _ _ (omega arith)
+length_fits_offer version.Two name window short = le-leb _ _ (name_short name window short)
+length_fits_offer version.Three name window short = le-leb _ _ (name_short name window short)
 
-pub fits_accepted : (v : Version) (key : ChannelKey) (window : ℕ) → is_packed v ≡ true → 0 < key.id → key.id < 0x8000000000000000
-    → window < 0x8000000000000000 → fits v (frame_of v (frame_on key (OfferAccepted (Some window)))) ≡ true
-fits_accepted v key window p a b w =
-    body_fits v key (OfferAccepted (Some window)) p a b (code_fits_accepted v window p w) (length_fits v _ p (omega (arith, unsigned_short window)))
+length_fits_accepted : (v : Version) (window : ℕ) → fits_length v (payload.Accepted (written_window v window)) ≡ true
+length_fits_accepted version.One window = refl
+length_fits_accepted version.Two window = le-leb _ _ (omega (arith, unsigned_short window))
+length_fits_accepted version.Three window = le-leb _ _ (omega (arith, unsigned_short window))
 
-pub fits_content : (v : Version) (key : ChannelKey) (bytes : List ℕ) → is_packed v ≡ true → 0 < key.id → key.id < 0x8000000000000000
-    → length bytes ≤ 0x100000 → fits v (frame_of v (frame_on key (Content bytes))) ≡ true
-fits_content v key bytes p a b short = body_fits v key (Content bytes) p a b (code_fits_content v bytes) (length_fits v _ p short)
+length_fits_content : (v : Version) (bytes : List ℕ) → length bytes ≤ 20480 → fits_length v (payload.Content bytes) ≡ true
+length_fits_content version.One bytes short = le-leb _ _ (omega arith)
+length_fits_content version.Two bytes short = le-leb _ _ (omega arith)
+length_fits_content version.Three bytes short = le-leb _ _ (omega arith)
 
-pub fits_processed : (v : Version) (key : ChannelKey) (count : ℕ) → is_packed v ≡ true → 0 < key.id → key.id < 0x8000000000000000
-    → count < 0x8000000000000000 → fits v (frame_of v (frame_on key (ContentProcessed count))) ≡ true
-fits_processed v key count p a b w =
-    body_fits v key (ContentProcessed count) p a b (code_fits_processed v count p w) (length_fits v _ p (omega (arith, unsigned_short count)))
+length_fits_processed : (v : Version) (count : ℕ) → fits_length v (payload.Processed count) ≡ true
+length_fits_processed version.One count = refl
+length_fits_processed version.Two count = le-leb _ _ (omega (arith, unsigned_short count))
+length_fits_processed version.Three count = le-leb _ _ (omega (arith, unsigned_short count))
+
+pub fits_offer : (v : Version) (key : ChannelKey) (name : List ℕ) (window : ℕ) → fits_id v key.id ≡ true → is_utf8 name ≡ true → length name ≤ 1024 → window < 0x8000000000000000
+    → fits v (frame_of v (frame_on key (Offer name (written_window v window)))) ≡ true
+fits_offer v key name window id u short w =
+    body_fits v key (Offer name (written_window v window)) id (code_fits_offer v name window u w) (length_fits_offer v name window short)
+
+pub fits_accepted : (v : Version) (key : ChannelKey) (window : ℕ) → fits_id v key.id ≡ true → window < 0x8000000000000000
+    → fits v (frame_of v (frame_on key (OfferAccepted (written_window v window)))) ≡ true
+fits_accepted v key window id w = body_fits v key (OfferAccepted (written_window v window)) id (code_fits_accepted v window w) (length_fits_accepted v window)
+
+pub fits_content : (v : Version) (key : ChannelKey) (bytes : List ℕ) → fits_id v key.id ≡ true → length bytes ≤ 20480
+    → fits v (frame_of v (frame_on key (Content bytes))) ≡ true
+fits_content v key bytes id short = body_fits v key (Content bytes) id (code_fits_content v bytes) (length_fits_content v bytes short)
+
+pub fits_processed : (v : Version) (key : ChannelKey) (count : ℕ) → fits_id v key.id ≡ true → is_one v ≡ false → count < 0x8000000000000000
+    → fits v (frame_of v (frame_on key (ContentProcessed count))) ≡ true
+fits_processed v key count id two w = body_fits v key (ContentProcessed count) id (code_fits_processed v count two w) (length_fits_processed v count)
 
 pub ruleset frames_fit = (is_utf8-from_IsUtf8, fits_offer, fits_accepted, fits_content, fits_processed)

@@ -3,7 +3,6 @@ pub mod Pieces
 pub mod Plain
 pub mod Tells
 pub mod Lanes
-pub mod Ranges
 pub mod Refuses
 pub mod Shows
 pub mod Taking

@@ -1,13 +1,13 @@
 -- What the lists of a channel are where every item is one of this stage.
-use Rattle.std.proofs.Common.{◌≡◌, ℕ, ◌+◌, ◌-◌, List, [], ◌∷◌, ◌++◌, length, drop, Bool, true, false, Option, None, refl, sym, ◌∙◌, ap, arith, inl, inr, length-drop}
+use Rattle.std.proofs.Common.{◌≡◌, ℕ, ◌+◌, ◌-◌, List, [], ◌∷◌, ◌++◌, length, drop, Bool, true, false, Option, refl, sym, ◌∙◌, ap, arith, inl, inr, length-drop}
 use Rattle.std.specs.Prelude.{not, ◌&&◌, ◌||◌, ◌==◌, if◌then◌else◌, filter, sum_by}
 use Rattle.std.specs.List.{list_all, list_any}
 use Rattle.std.proofs.lemmas.Bool.{and_parts, or_from, cases_Bool, false≢true, eqb-true, eq-eqb}
 use Rattle.wire_base.specs.declared.frame.Version.{Version}
 use Rattle.mux_items.specs.declared.channel.ChannelKey.{ChannelKey}
-use Rattle.mux_items.specs.declared.party.Party.TheVariants.{Neither}
+use Rattle.mux_items.specs.declared.party.Party.{Party}
 use Rattle.mux_items.specs.Bodies.{Offer, OfferAccepted, Content, ContentWritingCompleted, ChannelTerminated, ContentProcessed, same_key, same_bool, window_of}
-use Rattle.mux_items.specs.Items.{Item, Hello, DidOffer, DidAccept, DidRead, DidComplete, DidTerminate, Got, Rejected, End, is_running, greeting, party_of}
+use Rattle.mux_items.specs.Items.{Item, Hello, DidOffer, DidAccept, DidRead, DidComplete, DidTerminate, Got, Rejected, End, is_running}
 use Rattle.mux_items.specs.Lists.{written, window, is_offered, is_rejected, has_completed, has_terminated, is_terminated_by_peer, is_cut, before_cut, is_accepted_in, granted_in, is_completed_in, within_grant, emitted_in, emitted, completion_emitted, is_finished, termination_emitted, heeds, taken, is_accepted, is_completed, acknowledged, granted, is_dropped, handed, unread, is_closed}
 use Rattle.mux_items.specs.Kept.{keys, is_known, has_bytes, is_kept, kept_keys, own_windows}
 use Rattle.mux_end.specs.Stands.{is_built_item}
@@ -112,14 +112,6 @@ unread_length-built v c items each = ap length (unread-built v c items each) ∙
 pub is_kept-built : (v : Version) (c : ChannelKey) (items : List Item) → list_all is_built_item items ≡ true → is_kept v c items ≡ is_known c items
 is_kept-built v c items each = ap (λ b. is_known c items && (not b || has_bytes (unread v c items))) (is_closed-built v c items each) ∙ and_true (is_known c items)
 
-pub greeting-built : (items : List Item) → list_all is_built_item items ≡ true → greeting items ≡ None
-greeting-built [] each = refl
-greeting-built (Hello party ∷ items) each = absurd (false≢true each)
-greeting-built (item ∷ items) each = greeting-built items (each_rest item items each)
-
-pub party_of-built : (items : List Item) → list_all is_built_item items ≡ true → party_of items ≡ Neither
-party_of-built items each = rw (greeting-built items each) refl
-
 -- items that haven't ended
 pub is_cut-running : (c : ChannelKey) (items : List Item) → list_all is_built_item items ≡ true → is_running items ≡ true → is_cut c items ≡ false
 is_cut-running c [] each running = refl
@@ -196,6 +188,13 @@ pub emitted_by_read : (v : Version) (c key : ChannelKey) (max : ℕ) (items : Li
 emitted_by_read v c key max items = elim (cases_Bool (is_cut c items)) [
   | inl cut ↦ ap (λ b. emitted_in v c (if b then before_cut c items else DidRead key max ∷ items)) cut
   | inr uncut ↦ ap (λ b. emitted_in v c (if b then before_cut c items else DidRead key max ∷ items)) uncut ∙ ap (emitted_in v c) (sym (before_cut-open c items uncut))
+]
+
+-- so does the handshake
+pub emitted_by_hello : (v : Version) (c : ChannelKey) (party : Party) (items : List Item) → emitted v c (Hello party ∷ items) ≡ emitted v c items
+emitted_by_hello v c party items = elim (cases_Bool (is_cut c items)) [
+  | inl cut ↦ ap (λ b. emitted_in v c (if b then before_cut c items else Hello party ∷ items)) cut
+  | inr uncut ↦ ap (λ b. emitted_in v c (if b then before_cut c items else Hello party ∷ items)) uncut ∙ ap (emitted_in v c) (sym (before_cut-open c items uncut))
 ]
 
 -- channels that are known

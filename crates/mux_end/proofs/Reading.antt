@@ -2,7 +2,6 @@
 use Rattle.std.proofs.Common.{◌≡◌, ℕ, min, List, length, take, true, Option, Some, None, refl, sym, ◌∙◌, ap, length-drop}
 use Rattle.std.specs.Prelude.{not}
 use Rattle.std.proofs.lemmas.Bool.{not-false}
-use Rattle.wire_base.specs.declared.frame.Version.TheVariants as version
 use Rattle.wire_base.specs.declared.refusal.Refusal.{Refusal}
 use Rattle.wire_base.specs.declared.refusal.Refusal.TheVariants as refusal
 use Rattle.wire_base.specs.declared.state.EndState.{EndState}
@@ -31,14 +30,14 @@ key_named (Some lane) key e = (lane, refl, not-false (same_key key lane.key) (no
 named : (old : EndValue) (key : ChannelKey) → lane_read_refusal old.state old.channel key ≡ None → (lane : Lane) × (old.channel ≡ Some lane) × (same_key key lane.key ≡ true)
 named old key none = key_named old.channel key (unless_stopped-none old.state _ none)
 
-pub count_is : (old : EndValue) (items : List Item) (at : ℕ) (rest : List ℕ) (key : ChannelKey) (max : ℕ) → MuxStands old items at rest → old.version ≡ version.Three → lane_read_refusal old.state old.channel key ≡ None
+pub count_is : (old : EndValue) (items : List Item) (at : ℕ) (rest : List ℕ) (key : ChannelKey) (max : ℕ) → MuxStands old items at rest → lane_read_refusal old.state old.channel key ≡ None
     → count_read max old.channel ≡ min max (length (unread old.version key items))
-count_is old items at rest key max s three none =
+count_is old items at rest key max s none =
     let w = named old key none in
-    ap (count_read max) w.1 ∙ (ap (min max) (sym (length-drop w.0.handed w.0.taken)) ∙ ap (λ bytes. min max (length bytes)) (sym (unread_is old items at rest w.0 key s three w.1 w.2)))
+    ap (count_read max) w.1 ∙ (ap (min max) (sym (length-drop w.0.handed w.0.taken)) ∙ ap (λ bytes. min max (length bytes)) (sym (unread_is old items at rest w.0 key s w.1 w.2)))
 
-pub bytes_are : (old : EndValue) (items : List Item) (at : ℕ) (rest : List ℕ) (key : ChannelKey) (max : ℕ) → MuxStands old items at rest → old.version ≡ version.Three → lane_read_refusal old.state old.channel key ≡ None
+pub bytes_are : (old : EndValue) (items : List Item) (at : ℕ) (rest : List ℕ) (key : ChannelKey) (max : ℕ) → MuxStands old items at rest → lane_read_refusal old.state old.channel key ≡ None
     → bytes_read max old.channel ≡ take max (unread old.version key items)
-bytes_are old items at rest key max s three none =
+bytes_are old items at rest key max s none =
     let w = named old key none in
-    ap (bytes_read max) w.1 ∙ ap (take max) (sym (unread_is old items at rest w.0 key s three w.1 w.2))
+    ap (bytes_read max) w.1 ∙ ap (take max) (sym (unread_is old items at rest w.0 key s w.1 w.2))

@@ -1,5 +1,5 @@
 -- What an accepted call or an applied frame tells, and the bounds that follow.
-use Rattle.std.proofs.Common.{◌≡◌, ◌≤◌, ℕ, ◌+◌, ◌-◌, min, List, [], ◌∷◌, ◌++◌, length, Bool, true, false, Option, Some, None, refl, sym, ◌∙◌, ap, subst, arith, length-append}
+use Rattle.std.proofs.Common.{◌≡◌, ◌≤◌, ℕ, ◌+◌, ◌-◌, min, List, [], ◌∷◌, ◌++◌, length, Bool, true, false, Option, Some, None, refl, sym, ◌∙◌, ap, subst, arith, length-append, ◌⊎◌, inl, inr}
 use Rattle.std.specs.Prelude.{not, ◌&&◌, nat_lt, if◌then◌else◌, is_none}
 use Rattle.std.specs.List.{list_all}
 use Rattle.std.proofs.lemmas.Bool.{or_parts, false≢true, ltb-false, cond_both, not-false}
@@ -10,9 +10,10 @@ use Rattle.wire_base.specs.declared.refusal.Refusal.TheVariants as refusal
 use Rattle.wire_base.specs.declared.reason.Reason.TheVariants as reason
 use Rattle.wire_base.specs.declared.state.Cause.{Cause}
 use Rattle.mux_items.specs.declared.channel.ChannelKey.{ChannelKey}
+use Rattle.mux_items.specs.declared.party.Party.{Party}
 use Rattle.mux_items.specs.Bodies.{FrameBody, Offer, OfferAccepted, Content, ContentWritingCompleted, ChannelTerminated, ContentProcessed, same_key, window_of, is_one}
-use Rattle.mux_items.specs.Items.{Item, Hello, DidOffer, DidAccept, DidWrite, DidRead, DidComplete, DidTerminate, Got, Rejected, End, ended, is_running}
-use Rattle.mux_items.specs.Lists.{written, window, is_offered, is_cut, before_cut, is_accepted_in, granted_in, emitted, termination_emitted, heeds, taken, is_accepted, is_completed, acknowledged, granted, is_dropped, unread_count, handed, unread}
+use Rattle.mux_items.specs.Items.{Item, Hello, DidOffer, DidAccept, DidWrite, DidRead, DidComplete, DidTerminate, Got, Rejected, End, ended, is_running, greeting}
+use Rattle.mux_items.specs.Lists.{written, window, is_offered, is_cut, before_cut, is_accepted_in, granted_in, within_grant, emitted, termination_emitted, heeds, taken, is_accepted, is_completed, acknowledged, granted, is_dropped, unread_count, handed, unread}
 use Rattle.mux_items.specs.Kept.{keys, is_known, is_kept}
 use Rattle.mux_items.specs.Refusals.{is_ready, unless_ended, is_bad_window, offer_refusal, accept_refusal, is_unaccepted, open_refusal, or_else, writing_refusal, most_bytes, write_refusal, read_refusal, is_early, is_above_window, heeded_refusal, later_refusal, frame_refusal}
 use Rattle.mux_items.specs.Applying.{Allowed}
@@ -125,13 +126,24 @@ processed_tells v c count items each e =
     let within = none_then (nat_lt (emitted v c items) (acknowledged v c items + count)) reason.OverAcknowledged None later.1 in
     (later.0, ltb-false (emitted v c items) (acknowledged v c items + count) within.0)
 
--- where no channel was offered and the end runs, nothing has happened
+-- where no channel was offered and the end runs, nothing has happened but the peer's handshake
 pub unknown : {A : Type 0} (d : ChannelKey) (items : List Item) → keys items ≡ [] → is_known d items ≡ true → A
 unknown d items none known = absurd (false≢true (sym (is_known-none d items none) ∙ known))
 
-pub none_before : (v : Version) (items : List Item) → list_all is_built_item items ≡ true → Allowed v items → is_running items ≡ true → keys items ≡ [] → items ≡ []
-none_before v [] each a running none = refl
-none_before v (Hello party ∷ items) each a running none = absurd (false≢true each)
+abbrev pub IsBlank : List Item → Type 0
+IsBlank items = (items ≡ []) ⊎ ((party : Party) × (items ≡ Hello party ∷ []))
+
+-- a handshake comes once
+greeted_once : (party : Party) (items : List Item) → greeting items ≡ None → IsBlank items → IsBlank (Hello party ∷ items)
+greeted_once party items first (inl none) = inr (party, ap (λ xs. Hello party ∷ xs) none)
+greeted_once party items first (inr w) = absurd (some≢none (sym (ap greeting w.1) ∙ first))
+  where
+    some≢none : {A : Type 0} {x : A} → Some x ≡ None → ⊥
+    some≢none e = cc
+
+pub none_before : (v : Version) (items : List Item) → list_all is_built_item items ≡ true → Allowed v items → is_running items ≡ true → keys items ≡ [] → IsBlank items
+none_before v [] each a running none = inl refl
+none_before v (Hello party ∷ items) each a running none = greeted_once party items a.1 (none_before v items (each_rest (Hello party) items each) a.2 running none)
 none_before v (DidOffer key name size ∷ items) each a running none = absurd (cc)
 none_before v (DidAccept key size ∷ items) each a running none = unknown key items none (accept_tells v key size items (each_rest (DidAccept key size) items each) a.0).1
 none_before v (DidWrite key bytes ∷ items) each a running none = unknown key items none (write_tells v key bytes items (each_rest (DidWrite key bytes) items each) a.0).1
@@ -147,14 +159,24 @@ none_before v (Got place key (ContentProcessed count) ∷ items) each a running 
 none_before v (Rejected place key body ∷ items) each a running none = absurd (false≢true each)
 none_before v (End cause ∷ items) each a running none = absurd (false≢true running)
 
--- bounds, in versions 2 and 3
-min_mono : (g g' w w' : ℕ) → g ≤ g' → w ≤ w' → min g w ≤ min g' w'
-min_mono g g' w w' q r = omega arith
+-- what holds of no item and of a handshake alone holds before the first offer
+pub before_offer : (P : List Item → Type 0) (v : Version) (items : List Item) → list_all is_built_item items ≡ true → Allowed v items → is_running items ≡ true → keys items ≡ []
+    → P [] → ((party : Party) → P (Hello party ∷ [])) → P items
+before_offer P v items each a running none unmet met = elim (none_before v items each a running none) [
+  | inl e ↦ subst P (sym e) unmet
+  | inr w ↦ subst P (sym w.1) (met w.0)
+]
 
-pub emitted_mono : (a a' : Bool) (g g' w w' : ℕ) → (a ≡ true → a' ≡ true) → g ≤ g' → w ≤ w' → emitted_by version.Three a g w ≤ emitted_by version.Three a' g' w'
-emitted_mono true true g g' w w' p q r = min_mono g g' w w' q r
-emitted_mono true false g g' w w' p q r = absurd (false≢true (p refl))
-emitted_mono false a' g g' w w' p q r = omega arith
+-- bounds
+within_mono : (v : Version) (g g' w w' : ℕ) → g ≤ g' → w ≤ w' → within_grant v g w ≤ within_grant v g' w'
+within_mono version.One g g' w w' q r = r
+within_mono version.Two g g' w w' q r = omega arith
+within_mono version.Three g g' w w' q r = omega arith
+
+pub emitted_mono : (v : Version) (a a' : Bool) (g g' w w' : ℕ) → (a ≡ true → a' ≡ true) → g ≤ g' → w ≤ w' → emitted_by v a g w ≤ emitted_by v a' g' w'
+emitted_mono v true true g g' w w' p q r = within_mono v g g' w w' q r
+emitted_mono v true false g g' w w' p q r = absurd (false≢true (p refl))
+emitted_mono v false a' g g' w w' p q r = omega arith
 
 stays_true : (b a : Bool) → a ≡ true → (if b then true else a) ≡ true
 stays_true true a e = refl
@@ -169,59 +191,59 @@ stays_long true xs ys = omega (arith, length-append xs ys)
 stays_long false xs ys = omega arith
 
 -- an item takes nothing back of what was emitted
-grows_by : (c : ChannelKey) (item : Item) (items : List Item) → list_all is_built_item (item ∷ items) ≡ true → is_running items ≡ true → is_running (item ∷ items) ≡ true
-    → (is_accepted version.Three c items ≡ true → is_accepted version.Three c (item ∷ items) ≡ true) → granted version.Three c items ≤ granted version.Three c (item ∷ items) → length (written c items) ≤ length (written c (item ∷ items))
-    → emitted version.Three c items ≤ emitted version.Three c (item ∷ items)
-grows_by c item items each running still p q r =
-    let before = emitted-running version.Three c items (each_rest item items each) running in
-    let after = emitted-running version.Three c (item ∷ items) each still in
-    let le = emitted_mono (is_accepted version.Three c items) (is_accepted version.Three c (item ∷ items)) (granted version.Three c items) (granted version.Three c (item ∷ items)) (length (written c items)) (length (written c (item ∷ items))) p q r in
-    subst (λ n. n ≤ emitted version.Three c (item ∷ items)) (sym before) (subst (λ n. emitted_by version.Three (is_accepted version.Three c items) (granted version.Three c items) (length (written c items)) ≤ n) (sym after) le)
+grows_by : (v : Version) (c : ChannelKey) (item : Item) (items : List Item) → list_all is_built_item (item ∷ items) ≡ true → is_running items ≡ true → is_running (item ∷ items) ≡ true
+    → (is_accepted v c items ≡ true → is_accepted v c (item ∷ items) ≡ true) → granted v c items ≤ granted v c (item ∷ items) → length (written c items) ≤ length (written c (item ∷ items))
+    → emitted v c items ≤ emitted v c (item ∷ items)
+grows_by v c item items each running still p q r =
+    let before = emitted-running v c items (each_rest item items each) running in
+    let after = emitted-running v c (item ∷ items) each still in
+    let le = emitted_mono v (is_accepted v c items) (is_accepted v c (item ∷ items)) (granted v c items) (granted v c (item ∷ items)) (length (written c items)) (length (written c (item ∷ items))) p q r in
+    subst (λ n. n ≤ emitted v c (item ∷ items)) (sym before) (subst (λ n. emitted_by v (is_accepted v c items) (granted v c items) (length (written c items)) ≤ n) (sym after) le)
 
-pub emitted_grows : (c : ChannelKey) (item : Item) (items : List Item) → list_all is_built_item (item ∷ items) ≡ true → Allowed version.Three (item ∷ items)
-    → emitted version.Three c items ≤ emitted version.Three c (item ∷ items)
-emitted_grows c (Hello party) items each a = absurd (false≢true each)
-emitted_grows c (DidOffer key name size) items each a =
-    let running = (offer_tells version.Three name size items a.0).0 in
-    grows_by c (DidOffer key name size) items each running running (λ e. e) (omega arith) (omega arith)
-emitted_grows c (DidAccept key size) items each a =
-    let running = (accept_tells version.Three key size items (each_rest (DidAccept key size) items each) a.0).0 in
-    grows_by c (DidAccept key size) items each running running (λ e. stays_true (same_key key c) _ e) (omega arith) (omega arith)
-emitted_grows c (DidWrite key bytes) items each a =
-    let running = (write_tells version.Three key bytes items (each_rest (DidWrite key bytes) items each) a.0).0 in
-    grows_by c (DidWrite key bytes) items each running running (λ e. e) (omega arith) (stays_long (same_key key c) (written c items) bytes)
-emitted_grows c (DidRead key max) items each a = omega (arith, emitted_by_read version.Three c key max items)
-emitted_grows c (DidComplete key) items each a = absurd (false≢true each)
-emitted_grows c (DidTerminate key) items each a = absurd (false≢true each)
-emitted_grows c (Got place key (Offer name size)) items each a =
-    grows_by c (Got place key (Offer name size)) items each a.0 a.0 (λ e. e) (stays_over (heeds version.Three key c items) (granted version.Three c items) (window_of size)) (omega arith)
-emitted_grows c (Got place key (OfferAccepted size)) items each a =
-    grows_by c (Got place key (OfferAccepted size)) items each a.0 a.0 (λ e. stays_true (heeds version.Three key c items) _ e) (stays_over (heeds version.Three key c items) (granted version.Three c items) (window_of size)) (omega arith)
-emitted_grows c (Got place key (Content bytes)) items each a = grows_by c (Got place key (Content bytes)) items each a.0 a.0 (λ e. e) (omega arith) (omega arith)
-emitted_grows c (Got place key ContentWritingCompleted) items each a = absurd (false≢true each)
-emitted_grows c (Got place key ChannelTerminated) items each a = absurd (false≢true each)
-emitted_grows c (Got place key (ContentProcessed count)) items each a =
-    grows_by c (Got place key (ContentProcessed count)) items each a.0 a.0 (λ e. e) (stays_over (heeds version.Three key c items) (granted version.Three c items) count) (omega arith)
-emitted_grows c (Rejected place key body) items each a = absurd (false≢true each)
-emitted_grows c (End cause) items each a = omega arith
+pub emitted_grows : (v : Version) (c : ChannelKey) (item : Item) (items : List Item) → list_all is_built_item (item ∷ items) ≡ true → Allowed v (item ∷ items)
+    → emitted v c items ≤ emitted v c (item ∷ items)
+emitted_grows v c (Hello party) items each a = grows_by v c (Hello party) items each a.0 a.0 (λ e. e) (omega arith) (omega arith)
+emitted_grows v c (DidOffer key name size) items each a =
+    let running = (offer_tells v name size items a.0).0 in
+    grows_by v c (DidOffer key name size) items each running running (λ e. e) (omega arith) (omega arith)
+emitted_grows v c (DidAccept key size) items each a =
+    let running = (accept_tells v key size items (each_rest (DidAccept key size) items each) a.0).0 in
+    grows_by v c (DidAccept key size) items each running running (λ e. stays_true (same_key key c) _ e) (omega arith) (omega arith)
+emitted_grows v c (DidWrite key bytes) items each a =
+    let running = (write_tells v key bytes items (each_rest (DidWrite key bytes) items each) a.0).0 in
+    grows_by v c (DidWrite key bytes) items each running running (λ e. e) (omega arith) (stays_long (same_key key c) (written c items) bytes)
+emitted_grows v c (DidRead key max) items each a = omega (arith, emitted_by_read v c key max items)
+emitted_grows v c (DidComplete key) items each a = absurd (false≢true each)
+emitted_grows v c (DidTerminate key) items each a = absurd (false≢true each)
+emitted_grows v c (Got place key (Offer name size)) items each a =
+    grows_by v c (Got place key (Offer name size)) items each a.0 a.0 (λ e. e) (stays_over (heeds v key c items) (granted v c items) (window_of size)) (omega arith)
+emitted_grows v c (Got place key (OfferAccepted size)) items each a =
+    grows_by v c (Got place key (OfferAccepted size)) items each a.0 a.0 (λ e. stays_true (heeds v key c items) _ e) (stays_over (heeds v key c items) (granted v c items) (window_of size)) (omega arith)
+emitted_grows v c (Got place key (Content bytes)) items each a = grows_by v c (Got place key (Content bytes)) items each a.0 a.0 (λ e. e) (omega arith) (omega arith)
+emitted_grows v c (Got place key ContentWritingCompleted) items each a = absurd (false≢true each)
+emitted_grows v c (Got place key ChannelTerminated) items each a = absurd (false≢true each)
+emitted_grows v c (Got place key (ContentProcessed count)) items each a =
+    grows_by v c (Got place key (ContentProcessed count)) items each a.0 a.0 (λ e. e) (stays_over (heeds v key c items) (granted v c items) count) (omega arith)
+emitted_grows v c (Rejected place key body) items each a = absurd (false≢true each)
+emitted_grows v c (End cause) items each a = omega arith
 
 -- no more is acknowledged than was emitted
-pub acknowledged_small : (c : ChannelKey) (items : List Item) → list_all is_built_item items ≡ true → Allowed version.Three items → acknowledged version.Three c items ≤ emitted version.Three c items
-acknowledged_small c [] each a = omega arith
-acknowledged_small c (Got place key (ContentProcessed count) ∷ items) each a =
+pub acknowledged_small : (v : Version) (c : ChannelKey) (items : List Item) → list_all is_built_item items ≡ true → Allowed v items → acknowledged v c items ≤ emitted v c items
+acknowledged_small v c [] each a = omega arith
+acknowledged_small v c (Got place key (ContentProcessed count) ∷ items) each a =
     let rest = each_rest (Got place key (ContentProcessed count)) items each in
-    let grows = emitted_grows c (Got place key (ContentProcessed count)) items each a in
-    let before = acknowledged_small c items rest a.3 in
-    rw (acknowledged_by_credit version.Three c key place count items rest)
-    (cond_both (same_key key c) (acknowledged version.Three c items + count) (acknowledged version.Three c items) (λ n. n ≤ emitted version.Three c (Got place key (ContentProcessed count) ∷ items))
+    let grows = emitted_grows v c (Got place key (ContentProcessed count)) items each a in
+    let before = acknowledged_small v c items rest a.3 in
+    rw (acknowledged_by_credit v c key place count items rest)
+    (cond_both (same_key key c) (acknowledged v c items + count) (acknowledged v c items) (λ n. n ≤ emitted v c (Got place key (ContentProcessed count) ∷ items))
     (λ same.
-    let within = (processed_tells version.Three key count items rest a.1).1 in
-    let here = subst (λ k. acknowledged version.Three k items + count ≤ emitted version.Three k items) (same_key-true key c same) within in
+    let within = (processed_tells v key count items rest a.1).1 in
+    let here = subst (λ k. acknowledged v k items + count ≤ emitted v k items) (same_key-true key c same) within in
     omega arith)
     (λ differ. omega arith))
-acknowledged_small c (item ∷ items) each a =
-    let grows = emitted_grows c item items each a in
-    let before = acknowledged_small c items (each_rest item items each) (allowed_rest version.Three item items a) in
+acknowledged_small v c (item ∷ items) each a =
+    let grows = emitted_grows v c item items each a in
+    let before = acknowledged_small v c items (each_rest item items each) (allowed_rest v item items a) in
     omega arith
 
 most_of_min : (v : Version) (a : Bool) (g w : ℕ) → emitted_by v a g w ≤ w

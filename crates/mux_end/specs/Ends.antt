@@ -1,21 +1,24 @@
 -- What calls and frames make of an end.
-use Rattle.std.specs.Prelude.{◌≡◌, ◌≤◌, ℕ, ◌+◌, List, [], ◌∷◌, ◌++◌, length, drop, take, not, if◌then◌else◌, Option, Some, None}
+use Rattle.std.specs.Prelude.{◌≡◌, ◌≤◌, ℕ, ◌+◌, List, [], ◌∷◌, ◌++◌, length, drop, take, not, ◌||◌, if◌then◌else◌, Bool, Option, Some, None, IfSome}
 use Rattle.frame_text.specs.Front.{Front, Whole, Short, Broken}
 use Rattle.frame_text.specs.Hello.{hello}
 use Rattle.wire_base.specs.declared.frame.Payload.{Payload}
 use Rattle.wire_base.specs.declared.frame.Payload.TheVariants as payload
 use Rattle.wire_base.specs.declared.frame.Version.{Version}
-use Rattle.wire_base.specs.declared.frame.Version.TheVariants as version
 use Rattle.wire_base.specs.declared.reason.Reason.{Reason}
 use Rattle.wire_base.specs.declared.reason.Reason.TheVariants as reason
 use Rattle.wire_base.specs.declared.state.EndState.{EndState}
 use Rattle.wire_base.specs.declared.state.EndState.TheVariants as state
 use Rattle.mux_items.specs.declared.channel.ChannelKey.{ChannelKey}
-use Rattle.mux_items.specs.declared.party.Party.TheVariants.{Neither}
+use Rattle.mux_items.specs.declared.channel.MuxEvent.TheVariants as event
+use Rattle.mux_items.specs.declared.party.Party.{Party}
+use Rattle.mux_items.specs.Items.{party_or_neither}
+use Rattle.mux_handshake.specs.Handshake.{Handshake, handshake}
+use Rattle.mux_handshake.specs.Handshake as handshakes
 use Rattle.mux_items.specs.Applying.{heeded_event}
-use Rattle.mux_items.specs.Bodies.{FrameBody, Offer, OfferAccepted, Content, ContentWritingCompleted, ChannelTerminated, ContentProcessed, ChannelFrame, frame_on, frame_texts, same_key, taken_frame, window_of}
-use Rattle.mux_items.specs.Due.{content_frames}
-use Rattle.mux_items.specs.Refusals.{most_bytes}
+use Rattle.mux_items.specs.Bodies.{FrameBody, Offer, OfferAccepted, Content, ContentWritingCompleted, ChannelTerminated, ContentProcessed, ChannelFrame, frame_on, frame_texts, same_key, taken_frame, window_of, is_three}
+use Rattle.mux_items.specs.Due.{content_frames, written_window}
+use Rattle.mux_items.specs.Refusals.{most_bytes, is_greeted}
 use Rattle.mux_end.specs.declared.step.MuxStep.{MuxStep}
 use Rattle.mux_end.specs.declared.step.MuxStep.TheVariants as step
 use Rattle.mux_end.specs.Lane.{Lane, sendable_bytes, with_emitted, offered_lane, heard_lane, accepted_lane, answered_lane, written_lane, taken_lane, credited_lane, read_count, read_lane}
@@ -23,9 +26,9 @@ use Rattle.mux_end.specs.Replies.{refused_at}
 use Rattle.mux_end.specs.Stands.{EndValue, MuxStands}
 use Rattle.mux_end.specs.Tests.{acceptance_tests, content_tests, lane_frame_refusal, processed_tests, read_frames}
 
--- an end of version 3 that was fed no more than may be fed
+-- the channel is one of the end's version, and no more was fed than may be fed
 pub record IsSoundEnd (end : EndValue) : Type 0 where
-  pub is_three : end.version ≡ version.Three
+  pub one_version : IfSome end.channel (λ lane. lane.version ≡ end.version)
   pub fed_within : end.at + length end.rest ≤ most_bytes
 
 abbrev pub with_state : EndState → EndValue → EndValue
@@ -57,10 +60,10 @@ abbrev pub on_channel : EndValue → (Lane → EndValue) → EndValue
 on_channel end change = by_lane end.channel end change
 
 abbrev pub offered_end : ChannelKey → List ℕ → ℕ → EndValue → EndValue
-offered_end key name size end = with_lane (offered_lane key size) (with_frames (frame_on key (Offer name (Some size)) ∷ []) end)
+offered_end key name size end = with_lane (offered_lane end.version key size) (with_frames (frame_on key (Offer name (written_window end.version size)) ∷ []) end)
 
 abbrev pub accepted_end : ℕ → EndValue → EndValue
-accepted_end size end = on_channel end (λ lane. emits (frame_on lane.key (OfferAccepted (Some size)) ∷ []) (accepted_lane size lane) end)
+accepted_end size end = on_channel end (λ lane. emits (frame_on lane.key (OfferAccepted (written_window end.version size)) ∷ []) (accepted_lane size lane) end)
 
 abbrev pub written_end : List ℕ → EndValue → EndValue
 written_end bytes end = on_channel end (λ lane. emits [] (written_lane bytes lane) end)
@@ -79,14 +82,25 @@ bytes_read max (Some lane) = take max (drop lane.handed lane.taken)
 
 -- what a taken frame makes of an end
 abbrev pub end_after : ChannelKey → FrameBody → EndValue → EndValue
-end_after key (Offer name size) end = with_lane (heard_lane key (window_of size)) end
+end_after key (Offer name size) end = with_lane (heard_lane end.version key (window_of size)) end
 end_after key (OfferAccepted size) end = on_channel end (λ lane. emits [] (answered_lane (window_of size) lane) end)
 end_after key (Content bytes) end = on_channel end (λ lane. with_lane (taken_lane bytes lane) end)
 end_after key ContentWritingCompleted end = end
 end_after key ChannelTerminated end = end
 end_after key (ContentProcessed count) end = on_channel end (λ lane. emits [] (credited_lane count lane) end)
 
--- a whole frame of so many bytes goes from the front
+-- whether an end of version 1 or 2 has applied the peer's handshake; one of version 3 needs none
+abbrev pub is_ready_end : EndValue → Bool
+is_ready_end end = is_three end.version || is_greeted end.greeting
+
+-- the own party, by the peer's handshake
+abbrev pub own_party : EndValue → Party
+own_party end = party_or_neither end.greeting
+
+abbrev pub with_greeting : Party → EndValue → EndValue
+with_greeting party end = record end { greeting = Some party }
+
+-- a whole frame or handshake of so many bytes goes from the front
 abbrev pub with_applied : ℕ → EndValue → EndValue
 with_applied size end = record end { at = end.at + size; rest = drop size end.rest }
 
@@ -120,11 +134,20 @@ AppliesFrame old new f size refused reply = ⊥
 -- the front is applied or refused where it is whole or broken
 abbrev pub AppliesFront : EndValue → EndValue → Front → MuxStep → Type 0
 AppliesFront old new (Whole frame size) step.OutOfMemory = new.state ≡ state.Stopped
-AppliesFront old new (Whole frame size) reply = AppliesFrame old new (taken_frame Neither frame) size (end_refusal (taken_frame Neither frame) old) reply
+AppliesFront old new (Whole frame size) reply =
+    AppliesFrame old new (taken_frame (own_party old) frame) size (end_refusal (taken_frame (own_party old) frame) old) reply
 AppliesFront old new Short step.Short = new ≡ old
 AppliesFront old new (Broken offset r) (step.Ended c) = (c ≡ refused_at (old.at + offset) r) × (new ≡ with_state (state.Ended c) old)
 AppliesFront old new front step.OutOfMemory = new.state ≡ state.Stopped
 AppliesFront old new front reply = ⊥
+
+-- the peer's handshake is applied or refused where it is whole or broken
+abbrev pub AppliesHandshake : EndValue → EndValue → Handshake → MuxStep → Type 0
+AppliesHandshake old new (handshakes.Whole party size) (step.Event e) = (e ≡ event.Ready) × (new ≡ with_applied size (with_greeting party old))
+AppliesHandshake old new handshakes.Short step.Short = new ≡ old
+AppliesHandshake old new (handshakes.Broken offset r) (step.Ended c) = (c ≡ refused_at (old.at + offset) r) × (new ≡ with_state (state.Ended c) old)
+AppliesHandshake old new front step.OutOfMemory = new.state ≡ state.Stopped
+AppliesHandshake old new front reply = ⊥
 
 -- an end without channels, whose output is its hello
 pub record IsStarted (v : Version) (nonce : List ℕ) (end : EndValue) : Type 0 where

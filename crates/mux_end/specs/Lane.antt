@@ -3,11 +3,13 @@ use Rattle.std.specs.Prelude.{ℕ, ◌+◌, ◌-◌, min, List, [], ◌∷◌, �
 use Rattle.wire_base.specs.declared.frame.Version.{Version}
 use Rattle.mux_items.specs.declared.channel.ChannelKey.{ChannelKey}
 use Rattle.mux_items.specs.Items.{Item}
-use Rattle.mux_items.specs.Lists.{written, window, emitted, taken, handed, is_accepted, granted, acknowledged}
+use Rattle.mux_items.specs.Lists.{written, window, within_grant, emitted, taken, handed, is_accepted, granted, acknowledged}
 use Rattle.mux_items.specs.Kept.{keys}
 use Rattle.mux_items.specs.Due.{span}
 
+-- a channel by its counts, at an end of this version
 pub record Lane : Type 0 where
+  pub version : Version
   pub key : ChannelKey
   pub window : ℕ
   pub accepted : Bool
@@ -21,6 +23,7 @@ pub record Lane : Type 0 where
 -- what the items say of a channel
 abbrev pub lane_of : Version → ChannelKey → List Item → Lane
 lane_of v c items = record {
+  version = v;
   key = c;
   window = window c items;
   accepted = is_accepted v c items;
@@ -41,16 +44,16 @@ abbrev pub channel_of : Version → List Item → Option Lane
 channel_of v items = lane_of_keys v (keys items) items
 
 -- an own offer
-abbrev pub offered_lane : ChannelKey → ℕ → Lane
-offered_lane c size = record { key = c; window = size; accepted = false; granted = 0; acknowledged = 0; written = []; emitted = 0; taken = []; handed = 0 }
+abbrev pub offered_lane : Version → ChannelKey → ℕ → Lane
+offered_lane v c size = record { version = v; key = c; window = size; accepted = false; granted = 0; acknowledged = 0; written = []; emitted = 0; taken = []; handed = 0 }
 
 -- an offer of the peer
-abbrev pub heard_lane : ChannelKey → ℕ → Lane
-heard_lane c peer_window = record { key = c; window = 0; accepted = false; granted = peer_window; acknowledged = 0; written = []; emitted = 0; taken = []; handed = 0 }
+abbrev pub heard_lane : Version → ChannelKey → ℕ → Lane
+heard_lane v c peer_window = record { version = v; key = c; window = 0; accepted = false; granted = peer_window; acknowledged = 0; written = []; emitted = 0; taken = []; handed = 0 }
 
 -- how many of the written bytes may be emitted in all
 abbrev pub sendable : Lane → ℕ
-sendable lane = if lane.accepted then min lane.granted (length lane.written) else 0
+sendable lane = if lane.accepted then within_grant lane.version lane.granted (length lane.written) else 0
 
 -- the bytes that aren't emitted and may be
 abbrev pub sendable_bytes : Lane → List ℕ

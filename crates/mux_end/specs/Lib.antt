@@ -4,4 +4,4 @@ pub mod Replies
 pub mod Tests
 pub mod Sound
 pub mod Ends
-pub mod Ranges
+pub mod Reader

@@ -1,5 +1,5 @@
 -- What calls and steps of an end answer, and what they leave.
-use Rattle.std.specs.Prelude.{◌≡◌, ℕ, ◌+◌, List, ◌∷◌, ◌++◌, length, drop, Bool, true, false, nat_lt, Option, Some, None, Result, Ok, Err}
+use Rattle.std.specs.Prelude.{◌≡◌, ℕ, ◌+◌, List, ◌∷◌, ◌++◌, length, drop, Bool, true, false, nat_lt, if◌then◌else◌, Option, Some, None, Result, Ok, Err}
 use Rattle.wire_base.specs.declared.frame.Version.{Version}
 use Rattle.wire_base.specs.declared.reason.Reason.{Reason}
 use Rattle.wire_base.specs.declared.reason.Reason.TheVariants as reason
@@ -14,10 +14,14 @@ use Rattle.wire_base.specs.declared.state.EndState.{EndState}
 use Rattle.wire_base.specs.declared.state.EndState.TheVariants as state
 use Rattle.mux_items.specs.declared.channel.ChannelKey.{ChannelKey}
 use Rattle.mux_items.specs.Bodies.{FrameBody, Offer, ContentWritingCompleted, ChannelTerminated, ChannelFrame, frame_texts, taken_frame}
-use Rattle.mux_items.specs.Items.{Item, Got, End, party_of}
+use Rattle.mux_items.specs.declared.channel.MuxEvent.TheVariants as event
+use Rattle.mux_items.specs.declared.party.Party.{Party}
+use Rattle.mux_items.specs.Items.{Item, Hello, Got, End, party_of}
 use Rattle.mux_items.specs.Kept.{keys}
 use Rattle.mux_items.specs.Due.{due}
-use Rattle.mux_items.specs.Refusals.{frame_refusal, most_bytes}
+use Rattle.mux_items.specs.Refusals.{frame_refusal, is_ready, most_bytes}
+use Rattle.mux_handshake.specs.Handshake.{Handshake, handshake}
+use Rattle.mux_handshake.specs.Handshake as handshakes
 use Rattle.mux_items.specs.Applying.{place_at, frame_event}
 use Rattle.wire_base.specs.declared.fault.CallFault.{CallFault}
 use Rattle.wire_base.specs.declared.fault.CallFault.TheVariants as fault
@@ -60,6 +64,7 @@ built_refusal v c body items = reason_or (frame_refusal v c body items) (second_
 
 -- what an end that stands for items makes of the bytes that aren't applied
 pub data Next : Type 0 where
+  Greets : (party : Party) → (size : ℕ) → Next
   Applies : (key : ChannelKey) → (body : FrameBody) → (size : ℕ) → Next
   Waits : Next
   Refuses : (place : ℕ) → (reason : Reason) → Next
@@ -76,15 +81,22 @@ next_from v items at (Whole frame size) = next_taken v items (taken_frame (party
 next_from v items at Short = Waits
 next_from v items at (Broken offset r) = Refuses (at + offset) r
 
-abbrev pub next_of : Version → List Item → ℕ → List ℕ → Next
-next_of v items at rest = next_from v items at (front v rest)
+abbrev pub next_greeting : ℕ → Handshake → Next
+next_greeting at (handshakes.Whole party size) = Greets party size
+next_greeting at handshakes.Short = Waits
+next_greeting at (handshakes.Broken offset r) = Refuses (at + offset) r
+
+-- the peer's handshake comes first, then one frame after the other
+abbrev pub next_of : Version → (own : List ℕ) → List Item → ℕ → List ℕ → Next
+next_of v own items at rest = if is_ready v items then next_from v items at (front v rest) else next_greeting at (handshake v own rest)
 
 abbrev pub refused_at : ℕ → Reason → Cause
 refused_at place r = cause.Refused (place_at place) r
 
--- a step applies the next whole frame, waits for one, or ends the end where one is refused; an ended end tells its cause
+-- a step applies the handshake or the next whole frame, waits for one, or ends the end where one is refused; an ended end tells its cause
 abbrev pub StepAnswers : EndValue → EndValue → List Item → ℕ → List ℕ → Option Cause → Next → MuxStep → Type 0
 StepAnswers old new items at rest (Some ended) next (step.Ended c) = (c ≡ ended) × (new ≡ old)
+StepAnswers old new items at rest None (Greets party size) (step.Event e) = (e ≡ event.Ready) × Adds old new items (at + size) (drop size rest) (Hello party)
 StepAnswers old new items at rest None (Applies key body size) (step.Event e) =
     (e ≡ frame_event old.version key body items) × Adds old new items (at + size) (drop size rest) (Got at key body)
 StepAnswers old new items at rest None Waits step.Short = new ≡ old

@@ -6,15 +6,18 @@ use Rattle.wire_base.specs.declared.state.Cause.{Cause}
 use Rattle.wire_base.specs.declared.state.EndState.{EndState}
 use Rattle.wire_base.specs.declared.state.EndState.TheVariants as state
 use Rattle.mux_items.specs.Bodies.{FrameBody, Offer, OfferAccepted, Content, ContentWritingCompleted, ChannelTerminated, ContentProcessed}
-use Rattle.mux_items.specs.Items.{Item, Hello, DidOffer, DidAccept, DidWrite, DidRead, DidComplete, DidTerminate, Got, Rejected, End, ended}
+use Rattle.mux_items.specs.declared.party.Party.{Party}
+use Rattle.mux_items.specs.Items.{Item, Hello, DidOffer, DidAccept, DidWrite, DidRead, DidComplete, DidTerminate, Got, Rejected, End, ended, greeting}
 use Rattle.mux_items.specs.Kept.{keys}
 use Rattle.mux_items.specs.Applying.{Allowed}
 use Rattle.mux_end.specs.Lane.{Lane, channel_of}
 
--- the value of an end: `rest` are the bytes that were fed and aren't applied, `at` is the place of the first of them
+-- the value of an end: `greeting` is the party that the peer's handshake made it, `rest` are the bytes that were fed
+-- and aren't applied, `at` is the place of the first of them
 pub record EndValue : Type 0 where
   pub version : Version
   pub nonce : List ℕ
+  pub greeting : Option Party
   pub channel : Option Lane
   pub output : List ℕ
   pub at : ℕ
@@ -38,7 +41,7 @@ is_built_body ChannelTerminated = false
 is_built_body (ContentProcessed count) = true
 
 abbrev pub is_built_item : Item → Bool
-is_built_item (Hello party) = false
+is_built_item (Hello party) = true
 is_built_item (DidOffer key name size) = true
 is_built_item (DidAccept key size) = true
 is_built_item (DidWrite key bytes) = true
@@ -56,6 +59,7 @@ pub record IsBuilt (items : List Item) : Type 0 where
 
 -- the end is as the items leave it, with these bytes not applied, the first of them at this place
 pub record MuxStands (end : EndValue) (items : List Item) (at : ℕ) (rest : List ℕ) : Type 0 where
+  pub greeting : end.greeting ≡ greeting items
   pub channel : end.channel ≡ channel_of end.version items
   pub at_is : end.at ≡ at
   pub rest_is : end.rest ≡ rest

@@ -1,5 +1,5 @@
--- What the rules say of an end of version 3, by what it keeps.
-use Rattle.std.specs.Prelude.{ℕ, ◌+◌, ◌-◌, List, [], ◌∷◌, length, Bool, true, false, not, ◌&&◌, ◌==◌, nat_lt, if◌then◌else◌, Option, Some, None}
+-- What the rules say of an end, by what it keeps.
+use Rattle.std.specs.Prelude.{ℕ, ◌+◌, ◌-◌, List, [], ◌∷◌, length, Bool, true, false, not, ◌&&◌, ◌||◌, ◌==◌, nat_lt, if◌then◌else◌, Option, Some, None}
 use Rattle.wire_base.specs.declared.reason.Reason.{Reason}
 use Rattle.wire_base.specs.declared.reason.Reason.TheVariants as reason
 use Rattle.wire_base.specs.declared.refusal.Refusal.{Refusal}
@@ -11,7 +11,7 @@ use Rattle.mux_items.specs.declared.channel.ChannelView.{ChannelView}
 use Rattle.mux_items.specs.declared.channel.Phase.{Phase}
 use Rattle.mux_items.specs.declared.channel.Phase.TheVariants as phase
 use Rattle.mux_items.specs.declared.channel.Tally.{Tally}
-use Rattle.mux_items.specs.Bodies.{FrameBody, Offer, OfferAccepted, Content, ContentWritingCompleted, ChannelTerminated, ContentProcessed, ChannelFrame, frame_on, same_key}
+use Rattle.mux_items.specs.Bodies.{FrameBody, Offer, OfferAccepted, Content, ContentWritingCompleted, ChannelTerminated, ContentProcessed, ChannelFrame, frame_on, same_key, is_one}
 use Rattle.mux_items.specs.Refusals.{is_bad_window, most_bytes}
 use Rattle.mux_end.specs.Lane.{Lane, read_count}
 
@@ -32,14 +32,16 @@ is_running_state state.Running = true
 is_running_state (state.Ended cause) = false
 is_running_state state.Stopped = false
 
-abbrev pub offer_tests : List ℕ → ℕ → Option Refusal
-offer_tests name size =
-    if nat_lt 1024 (length name) then Some refusal.NameTooLong
+-- whether the peer's handshake isn't applied where one is needed comes first
+abbrev pub offer_tests : (ready : Bool) → List ℕ → ℕ → Option Refusal
+offer_tests ready name size =
+    if not ready then Some refusal.NotReady
+    else if nat_lt 1024 (length name) then Some refusal.NameTooLong
     else if is_bad_window size then Some refusal.BadWindow
     else None
 
-abbrev pub lane_offer_refusal : EndState → List ℕ → ℕ → Option Refusal
-lane_offer_refusal state name size = unless_over state (offer_tests name size)
+abbrev pub lane_offer_refusal : EndState → (ready : Bool) → List ℕ → ℕ → Option Refusal
+lane_offer_refusal state ready name size = unless_over state (offer_tests ready name size)
 
 abbrev pub accept_tests : Lane → ChannelKey → ℕ → Option Refusal
 accept_tests lane key size =
@@ -97,10 +99,11 @@ abbrev pub acceptance_tests : ChannelKey → Lane → Option Reason
 acceptance_tests key lane =
     if not key.own then Some reason.WrongSide else if lane.accepted then Some reason.AlreadyAccepted else None
 
+-- in version 1 content may come before a peer's offer is accepted, and no window bounds it
 abbrev pub content_tests : List ℕ → Lane → Option Reason
 content_tests bytes lane =
-    if not lane.accepted then Some reason.NotAccepted
-    else if nat_lt lane.window (unread_in lane + length bytes) then Some reason.WindowExceeded
+    if (lane.key.own || not (is_one lane.version)) && not lane.accepted then Some reason.NotAccepted
+    else if not (is_one lane.version) && nat_lt lane.window (unread_in lane + length bytes) then Some reason.WindowExceeded
     else None
 
 abbrev pub processed_tests : ℕ → Lane → Option Reason
@@ -114,10 +117,11 @@ lane_frame_refusal channel key ContentWritingCompleted = Some reason.NotBuilt
 lane_frame_refusal channel key ChannelTerminated = Some reason.NotBuilt
 lane_frame_refusal channel key (ContentProcessed count) = on_named channel key (processed_tests count)
 
--- the acknowledgement of a read of at most so many bytes
+-- the acknowledgement of a read of at most so many bytes; version 1 has none
 abbrev pub read_frames : EndState → ℕ → Lane → List ChannelFrame
 read_frames state max lane =
-    if read_count max lane == 0 then []
+    if is_one lane.version then []
+    else if read_count max lane == 0 then []
     else if is_running_state state && lane.accepted then frame_on lane.key (ContentProcessed (read_count max lane)) ∷ []
     else []
 
@@ -135,7 +139,7 @@ shown_lane state lane = record {
   unread = unread_in lane;
   pending = pending_in state lane;
   emitted = lane.emitted;
-  granted = Some lane.granted;
+  granted = if is_one lane.version then None else Some lane.granted;
   completed = false;
 }
 

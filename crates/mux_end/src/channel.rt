@@ -1,13 +1,13 @@
 //! The channel of an end.
 
-ghost use Rattle.frame_text.specs.Codec.{is_packed};
+ghost use Rattle.frame_text.specs.Frames.{fits_id};
 ghost use Rattle.mux_end.specs.Lane.{accepted_lane, answered_lane, credited_lane, heard_lane, offered_lane, read_count, read_lane, sendable, sendable_bytes, taken_lane, with_emitted, written_lane};
 ghost use Rattle.mux_end.specs.Tests.{accept_tests, acceptance_tests, content_tests, lane_phase, pending_in, processed_tests, read_tests, shown_lane, tally_in, write_tests};
 ghost use Rattle.mux_end.specs.Ends.{payload_tests};
-ghost use Rattle.mux_items.specs.Bodies.{frame_texts, same_key};
+ghost use Rattle.mux_items.specs.Bodies.{frame_texts, is_one, same_key};
 ghost use Rattle.mux_items.specs.Due.{content_frames};
 ghost use Rattle.mux_items.specs.Refusals.{is_bad_window};
-ghost use Rattle.std.specs.Prelude.{◌≡◌, ◌≤◌, ◌<◌, ◌+◌, ◌-◌, ◌++◌, drop, length, take, true, false, IfOk, OnOk};
+ghost use Rattle.std.specs.Prelude.{◌≡◌, ◌≤◌, ◌<◌, ◌+◌, ◌-◌, ◌++◌, ◌&&◌, ◌||◌, drop, length, not, take, true, false, IfOk, OnOk};
 
 use crate::frames::push_content;
 use mux_items::{ChannelKey, ChannelView, Phase, Tally};
@@ -31,6 +31,7 @@ pub fn is_bad_window(window: u32) -> bool
 /// A channel: all bytes that were written and taken, and how far emission and reading got.
 #[derive(Drop)]
 pub struct Channel {
+    version: Version,
     key: ChannelKey,
     window: u32,
     accepted: bool,
@@ -48,16 +49,15 @@ impl Model for Channel {
 
     ghost Value = { Lane };
 
-    ghost view = { λ c. record { key = c.key; window = c.window; accepted = c.accepted; granted = c.granted; acknowledged = c.acknowledged; written = c.written.items; emitted = c.emitted; taken = c.taken.items; handed = c.handed } };
+    ghost view = { λ c. record { version = c.version; key = c.key; window = c.window; accepted = c.accepted; granted = c.granted; acknowledged = c.acknowledged; written = c.written.items; emitted = c.emitted; taken = c.taken.items; handed = c.handed } };
 
-    ghost invariant = { λ c. IsSound (record { key = c.key; window = c.window; accepted = c.accepted; granted = c.granted; acknowledged = c.acknowledged; written = c.written.items; emitted = c.emitted; taken = c.taken.items; handed = c.handed }) };
+    ghost invariant = { λ c. IsSound (record { version = c.version; key = c.key; window = c.window; accepted = c.accepted; granted = c.granted; acknowledged = c.acknowledged; written = c.written.items; emitted = c.emitted; taken = c.taken.items; handed = c.handed }) };
 }
 
 impl Channel {
     pub fn key(&self) -> ChannelKey
         ensures key { result ≡ self.now.key }
-        ensures id_above { 0 < result.id }
-        ensures id_below { result.id < 0x8000000000000000 }
+        ensures fits { fits_id self.now.version result.id ≡ true }
     {
         self.key
     }
@@ -69,10 +69,11 @@ impl Channel {
         key.id == self.key.id && key.own == self.key.own
     }
 
-    pub fn is_accepted(&self) -> bool
-        ensures { result ≡ self.now.accepted }
+    /// Whether a read on this channel is acknowledged.
+    pub fn acknowledges(&self) -> bool
+        ensures { result ≡ (self.now.accepted && not (is_one self.now.version)) }
     {
-        self.accepted
+        self.accepted && self.has_windows()
     }
 
     pub fn accept_refusal(&self, key: ChannelKey, window: u32) -> Option<Refusal>
@@ -130,13 +131,30 @@ impl Channel {
         }
     }
 
+    /// Whether content may not come yet: in version 1 it may before a peer's offer is accepted.
+    fn is_early(&self) -> bool
+        ensures { result ≡ ((self.now.key.own || not (is_one self.now.version)) && not self.now.accepted) }
+    {
+        (self.key.own || self.has_windows()) && !self.accepted
+    }
+
+    /// Version 1 has no windows, and no acknowledgements.
+    fn has_windows(&self) -> bool
+        ensures { result ≡ not (is_one self.now.version) }
+    {
+        match self.version {
+            Version::One => false,
+            Version::Two | Version::Three => true,
+        }
+    }
+
     /// Why the peer's content is refused, if it is.
     fn content_refusal(&self, bytes: &[u8]) -> Option<Reason>
         ensures { result ≡ content_tests bytes.now self.now }
     {
-        if !self.accepted {
+        if self.is_early() {
             Some(Reason::NotAccepted)
-        } else if (self.window as usize) < self.unread() + bytes.len() {
+        } else if self.has_windows() && (self.window as usize) < self.unread() + bytes.len() {
             Some(Reason::WindowExceeded)
         } else {
             None
@@ -205,7 +223,11 @@ impl Channel {
             unread: self.unread(),
             pending: self.pending(state),
             emitted: self.emitted as u64,
-            granted: Some(self.granted),
+            granted: if self.has_windows() {
+                Some(self.granted)
+            } else {
+                None
+            },
             completed: false,
         }
     }
@@ -223,14 +245,14 @@ impl Channel {
     }
 
     /// A channel that this end offers.
-    pub fn offered(alloc: Global, key: ChannelKey, window: u32) -> Channel
-        requires id_above { 0 < key.id }
-        requires id_below { key.id < 0x8000000000000000 }
+    pub fn offered(alloc: Global, version: Version, key: ChannelKey, window: u32) -> Channel
+        requires fits { fits_id version key.id ≡ true }
         requires own { key.own ≡ true }
         requires window { window ≤ 16777216 }
-        ensures { result ≡ offered_lane key window }
+        ensures { result ≡ offered_lane version key window }
     {
         Channel {
+            version,
             key,
             window,
             accepted: false,
@@ -244,14 +266,14 @@ impl Channel {
     }
 
     /// A channel that the peer offers with its window.
-    pub fn heard(alloc: Global, key: ChannelKey, peer_window: u64) -> Channel
-        requires id_above { 0 < key.id }
-        requires id_below { key.id < 0x8000000000000000 }
+    pub fn heard(alloc: Global, version: Version, key: ChannelKey, peer_window: u64) -> Channel
+        requires fits { fits_id version key.id ≡ true }
         requires peers { key.own ≡ false }
         requires window { peer_window < 0x8000000000000000 }
-        ensures { result ≡ heard_lane key peer_window }
+        ensures { result ≡ heard_lane version key peer_window }
     {
         Channel {
+            version,
             key,
             window: 0,
             accepted: false,
@@ -287,14 +309,16 @@ impl Channel {
 
     pub fn write(&mut self, bytes: &[u8]) -> Result<(), OutOfMemory>
         requires { length self.old.written + length bytes.now ≤ 0x4000000000000000 }
-        ensures { OnOk result (self.new ≡ written_lane bytes.now self.old) }
+        ensures lane { OnOk result (self.new ≡ written_lane bytes.now self.old) }
+        ensures version { self.new.version ≡ self.old.version }
     {
         self.written.extend_from_slice(bytes)?;
         Ok(())
     }
 
     pub fn take(&mut self, bytes: &[u8]) -> Result<(), OutOfMemory>
-        ensures { OnOk result (self.new ≡ taken_lane bytes.now self.old) }
+        ensures lane { OnOk result (self.new ≡ taken_lane bytes.now self.old) }
+        ensures version { self.new.version ≡ self.old.version }
     {
         self.taken.extend_from_slice(bytes)?;
         Ok(())
@@ -313,6 +337,7 @@ impl Channel {
     pub fn read(&mut self, max: usize, out: &mut Vec<u8>) -> Result<usize, OutOfMemory>
         ensures count { IfOk result (λ n. n ≡ read_count max self.old) }
         ensures lane { OnOk result (self.new ≡ read_lane max self.old) }
+        ensures version { self.new.version ≡ self.old.version }
         ensures bytes { OnOk result (out.new.items ≡ out.old.items ++ take max (drop self.old.handed self.old.taken)) }
     {
         let unread = &self.taken[self.handed..];
@@ -328,25 +353,23 @@ impl Channel {
         if !self.accepted {
             return 0;
         }
+        if !self.has_windows() {
+            return self.written.len();
+        }
         let written = self.written.len() as u64;
         self.granted.min(written) as usize
     }
 
     /// Writes what may be emitted at the end of the output.
-    pub fn emit(
-        &mut self,
-        alloc: Global,
-        version: Version,
-        out: &mut Vec<u8>,
-    ) -> Result<(), OutOfMemory>
-        requires { is_packed version ≡ true }
+    pub fn emit(&mut self, alloc: Global, out: &mut Vec<u8>) -> Result<(), OutOfMemory>
         ensures lane { OnOk result (self.new ≡ with_emitted self.old) }
-        ensures output { OnOk result (out.new.items ≡ out.old.items ++ frame_texts version (content_frames self.old.key (sendable_bytes self.old))) }
+        ensures version { self.new.version ≡ self.old.version }
+        ensures output { OnOk result (out.new.items ≡ out.old.items ++ frame_texts self.old.version (content_frames self.old.key (sendable_bytes self.old))) }
     {
         let sendable = self.sendable();
         push_content(
             alloc,
-            version,
+            self.version,
             self.key,
             &self.written[self.emitted..sendable],
             out,

@@ -1,27 +1,29 @@
 //! All that an end keeps, and its calls.
 
+ghost use Rattle.frame_text.specs.Frames.{fits, fits_id};
 ghost use Rattle.frame_text.specs.Reading.{front};
-ghost use Rattle.mux_end.specs.Ends.{AppliesFrame, AppliesFront, IsStarted, KeepsTerms, accepted_end, bytes_read, count_read, emits, end_after, end_refusal, offered_end, on_channel, read_end, with_applied, with_lane, with_output, with_rest, with_state, written_end};
+ghost use Rattle.mux_end.specs.Ends.{AppliesFrame, AppliesFront, AppliesHandshake, IsStarted, KeepsTerms, accepted_end, bytes_read, count_read, emits, end_after, end_refusal, is_ready_end, offered_end, on_channel, own_party, read_end, with_applied, with_greeting, with_lane, with_output, with_rest, with_state, written_end};
 ghost use Rattle.mux_end.specs.Lane.{answered_lane, credited_lane, heard_lane, taken_lane};
-ghost use Rattle.mux_end.specs.Ranges.{IsInRange};
+ghost use Rattle.mux_handshake.specs.Handshake.{handshake};
 ghost use Rattle.mux_end.specs.Replies.{CallAnswers, FeedAnswers, RefusesStopped, StepAnswers, StepsStopped, is_spent, next_of};
 ghost use Rattle.mux_end.specs.Stands.{MuxStands};
 ghost use Rattle.mux_end.specs.Tests.{is_running_state, lane_accept_refusal, lane_frame_refusal, lane_read_refusal, lane_write_refusal, offer_tests, peer_offer_tests, unless_over, unless_stopped};
 ghost use Rattle.mux_items.specs.Applying.{heeded_event};
-ghost use Rattle.mux_items.specs.Bodies.{body_of, key_of, taken_frame};
+ghost use Rattle.mux_items.specs.Bodies.{body_of, has_parity, is_own, key_of, taken_frame};
 ghost use Rattle.mux_items.specs.Items.{DidAccept, DidOffer, DidRead, DidWrite, Item, ended};
-ghost use Rattle.mux_items.specs.Kept.{next_key};
+ghost use Rattle.mux_items.specs.Kept.{next_key, own_id};
 ghost use Rattle.mux_items.specs.Lists.{unread};
-ghost use Rattle.mux_items.specs.Refusals.{accept_refusal, most_bytes, offer_refusal, read_refusal, write_refusal};
+ghost use Rattle.mux_items.specs.Refusals.{accept_refusal, is_ready, most_bytes, offer_refusal, read_refusal, write_refusal};
 ghost use Rattle.mux_items.specs.Views.{known_keys, tally_of, view_of};
-ghost use Rattle.mux_items.specs.declared.party.Party.TheVariants.{Neither};
 ghost use Rattle.std.specs.Prelude.{◌≡◌, ◌≤◌, ◌<◌, ◌+◌, ◌++◌, List, [], ℕ, drop, length, min, nat_lt, slice_get, take, true, false, IfOk, OnOk, IfSome};
 ghost use Rattle.wire_base.specs.declared.refusal.Refusal.{Refusal};
 
 use crate::channel::{Channel, is_bad_window};
-use crate::frames::{first_frame, push_accepted, push_offer, push_processed};
+use crate::frames::{push_accepted, push_offer, push_processed};
 use crate::step::MuxStep;
-use mux_items::{ChannelKey, ChannelView, MuxEvent, Tally};
+use frame_reader::{AnyCodec, FrameReader};
+use mux_handshake::{Shaken, hello, shake};
+use mux_items::{ChannelKey, ChannelView, MuxEvent, Party, Tally};
 use std::alloc::Global;
 use std::marker::Model;
 use wire_base::{
@@ -35,44 +37,77 @@ const LONGEST_NAME: usize = 1024;
 /// The most bytes that are fed to an end.
 const MOST_FED: u64 = 0x4000_0000_0000_0000;
 
-/// The key of the channel that this end offers.
-const OFFERED: ChannelKey = ChannelKey { id: 1, own: true };
-
 /// The window of a frame that names none.
 const ABSENT_WINDOW: u64 = 102_400;
 
-/// One end of a multiplexing stream of version 3, with one channel.
+/// One end of a multiplexing stream, with one channel.
 #[derive(Drop)]
 pub struct MuxEnd {
     alloc: Global,
     version: Version,
     nonce: [u8; 16],
+    /// The own party, once the peer's handshake is applied.
+    greeting: Option<Party>,
     channel: Option<Channel>,
     output: Vec<u8>,
-    at: u64,
-    rest: Vec<u8>,
+    reader: FrameReader<AnyCodec>,
     state: EndState,
 }
 
 impl Model for MuxEnd {
     ghost use Rattle.mux_end.specs.Ends.{IsSoundEnd};
+    ghost use Rattle.mux_end.specs.Reader.{IsReaderOf};
     ghost use Rattle.mux_end.specs.Stands.{EndValue};
 
     ghost Value = { EndValue };
 
-    ghost view = { λ e. record { version = e.version; nonce = e.nonce; channel = e.channel; output = e.output.items; at = e.at; rest = e.rest.items; state = e.state } };
+    ghost view = { λ e. record { version = e.version; nonce = e.nonce; greeting = e.greeting; channel = e.channel; output = e.output.items; at = e.reader.at; rest = e.reader.rest; state = e.state } };
 
-    ghost invariant = { λ e. IsSoundEnd (record { version = e.version; nonce = e.nonce; channel = e.channel; output = e.output.items; at = e.at; rest = e.rest.items; state = e.state }) };
+    ghost invariant = { λ e. IsSoundEnd (record { version = e.version; nonce = e.nonce; greeting = e.greeting; channel = e.channel; output = e.output.items; at = e.reader.at; rest = e.reader.rest; state = e.state }) × IsReaderOf (record { version = e.version; nonce = e.nonce; greeting = e.greeting; channel = e.channel; output = e.output.items; at = e.reader.at; rest = e.reader.rest; state = e.state }) e.reader };
 }
 
-/// The channel that a frame names, as the end that takes it names it.
-fn key_of(frame: &Frame) -> ChannelKey
-    ensures { result ≡ key_of Neither frame.now }
+/// Whether an id is one of this party's own.
+fn has_parity(party: Party, id: u64) -> bool
+    ensures { result ≡ has_parity party id }
+{
+    match party {
+        Party::Odd => id % 2 == 1,
+        Party::Even => id % 2 == 0,
+        Party::Neither => false,
+    }
+}
+
+/// Whether the end of this party that takes a frame made the offer of its channel.
+fn is_own(party: Party, frame: &Frame) -> bool
+    ensures { result ≡ is_own party frame.now.origin frame.now.id }
+{
+    match frame.origin {
+        Origin::Sender => false,
+        Origin::Receiver => true,
+        Origin::ByParity => has_parity(party, frame.id),
+    }
+}
+
+/// The channel that a frame names, as the end of this party that takes it names it.
+fn key_of(party: Party, frame: &Frame) -> ChannelKey
+    ensures { result ≡ key_of party frame.now }
 {
     ChannelKey {
         id: frame.id,
-        own: matches!(frame.origin, Origin::Receiver),
+        own: is_own(party, frame),
     }
+}
+
+/// The channel that an end of this party offers first.
+fn first_key(party: Party) -> ChannelKey
+    ensures id { result.id ≡ own_id party 1 }
+    ensures own { result.own ≡ true }
+{
+    let id = match party {
+        Party::Odd | Party::Neither => 1,
+        Party::Even => 2,
+    };
+    ChannelKey { id, own: true }
 }
 
 /// The refusal that every call but a read has first.
@@ -96,10 +131,12 @@ fn unless_stopped(state: EndState, otherwise: Option<Refusal>) -> Option<Refusal
     }
 }
 
-fn offer_refusal(name: &Text, window: u32) -> Option<Refusal>
-    ensures { result ≡ offer_tests name.now window }
+fn offer_refusal(ready: bool, name: &Text, window: u32) -> Option<Refusal>
+    ensures { result ≡ offer_tests ready name.now window }
 {
-    if LONGEST_NAME < name.as_str().len() {
+    if !ready {
+        Some(Refusal::NotReady)
+    } else if LONGEST_NAME < name.as_str().len() {
         Some(Refusal::NameTooLong)
     } else if is_bad_window(window) {
         Some(Refusal::BadWindow)
@@ -111,17 +148,18 @@ fn offer_refusal(name: &Text, window: u32) -> Option<Refusal>
 impl MuxEnd {
     /// An end without channels, whose output is its hello.
     pub fn start(alloc: Global, version: Version, nonce: [u8; 16]) -> Result<MuxEnd, OutOfMemory>
-        requires { version ≡ Version.Three }
         ensures { IfOk result (IsStarted version nonce) }
     {
+        let mut output = Vec::new(alloc);
+        hello(version, &nonce, &mut output)?;
         Ok(MuxEnd {
             alloc,
             version,
             nonce,
+            greeting: None,
             channel: None,
-            output: Vec::new(alloc),
-            at: 0,
-            rest: Vec::new(alloc),
+            output,
+            reader: FrameReader::new(alloc, AnyCodec::new(version), Place(0)),
             state: EndState::Running,
         })
     }
@@ -135,11 +173,13 @@ impl MuxEnd {
         ensures stopped { RefusesStopped self.old self.new result }
         ensures terms { KeepsTerms self.old self.new }
     {
-        if let Some(refusal) = unless_over(self.state, offer_refusal(name, window)) {
+        let refusal = offer_refusal(self.is_ready(), name, window);
+        if let Some(refusal) = unless_over(self.state, refusal) {
             return Err(CallFault::Refused(refusal));
         }
-        match self.offer_channel(OFFERED, name, window) {
-            Ok(()) => Ok(OFFERED),
+        let key = first_key(self.party());
+        match self.offer_channel(key, name, window) {
+            Ok(()) => Ok(key),
             Err(_) => Err(self.stop()),
         }
     }
@@ -226,17 +266,18 @@ impl MuxEnd {
         }
     }
 
-    /// Applies the next whole frame.
+    /// Applies the peer's handshake, or the next whole frame.
     pub fn step(&mut self) -> MuxStep
         ensures answers { (items : List Item) (at : ℕ) (rest : List ℕ) → MuxStands self.old items at rest →
-            StepAnswers self.old self.new items at rest (ended items) (next_of self.old.version items at rest) result }
+            StepAnswers self.old self.new items at rest (ended items) (next_of self.old.version self.old.nonce items at rest) result }
         ensures stopped { StepsStopped self.old self.new result }
         ensures shorter { (event : MuxEvent) → result ≡ MuxStep.Event event → length self.new.rest < length self.old.rest }
         ensures going { (event : MuxEvent) → result ≡ MuxStep.Event event → self.new.state ≡ self.old.state }
         ensures terms { KeepsTerms self.old self.new }
     {
         match self.state {
-            EndState::Running => self.apply_front(),
+            EndState::Running if self.is_ready() => self.apply_front(),
+            EndState::Running => self.greet(),
             EndState::Ended(cause) => MuxStep::Ended(cause),
             EndState::Stopped => MuxStep::Stopped,
         }
@@ -267,6 +308,13 @@ impl MuxEnd {
         ensures { result ≡ self.now.version }
     {
         self.version
+    }
+
+    /// Whether the peer's handshake is applied where one is needed: version 3 has none.
+    pub fn ready(&self) -> bool
+        ensures { (items : List Item) (at : ℕ) (rest : List ℕ) → MuxStands self.now items at rest → result ≡ is_ready self.now.version items }
+    {
+        self.is_ready()
     }
 
     /// A kept channel as it stands.
@@ -300,8 +348,7 @@ impl MuxEnd {
     }
 
     fn accept_refusal(&self, key: ChannelKey, window: u32) -> Option<Refusal>
-        ensures refusal { result ≡ lane_accept_refusal self.now.state self.now.channel key window }
-        ensures three { self.now.version ≡ Version.Three }
+        ensures { result ≡ lane_accept_refusal self.now.state self.now.channel key window }
     {
         let refusal = match &self.channel {
             Some(channel) => channel.accept_refusal(key, window),
@@ -311,8 +358,7 @@ impl MuxEnd {
     }
 
     fn write_refusal(&self, key: ChannelKey, bytes: &[u8]) -> Option<Refusal>
-        ensures refusal { result ≡ lane_write_refusal self.now.state self.now.channel key bytes.now }
-        ensures three { self.now.version ≡ Version.Three }
+        ensures { result ≡ lane_write_refusal self.now.state self.now.channel key bytes.now }
     {
         let refusal = match &self.channel {
             Some(channel) => channel.write_refusal(key, bytes),
@@ -322,8 +368,7 @@ impl MuxEnd {
     }
 
     fn read_refusal(&self, key: ChannelKey) -> Option<Refusal>
-        ensures refusal { result ≡ lane_read_refusal self.now.state self.now.channel key }
-        ensures three { self.now.version ≡ Version.Three }
+        ensures { result ≡ lane_read_refusal self.now.state self.now.channel key }
     {
         let refusal = match &self.channel {
             Some(channel) => channel.read_refusal(key),
@@ -339,7 +384,7 @@ impl MuxEnd {
     {
         if let Some(channel) = &mut self.channel {
             channel.write(bytes)?;
-            channel.emit(self.alloc, self.version, &mut self.output)?;
+            channel.emit(self.alloc, &mut self.output)?;
         }
         Ok(())
     }
@@ -350,8 +395,7 @@ impl MuxEnd {
         name: &Text,
         window: u32,
     ) -> Result<(), OutOfMemory>
-        requires id_above { 0 < key.id }
-        requires id_below { key.id < 0x8000000000000000 }
+        requires fits { fits_id self.old.version key.id ≡ true }
         requires own { key.own ≡ true }
         requires short { length name.now ≤ 1024 }
         requires window { window ≤ 16777216 }
@@ -366,7 +410,7 @@ impl MuxEnd {
             window,
             &mut self.output,
         )?;
-        self.channel = Some(Channel::offered(self.alloc, key, window));
+        self.channel = Some(Channel::offered(self.alloc, self.version, key, window));
         Ok(())
     }
 
@@ -380,7 +424,7 @@ impl MuxEnd {
         if let Some(channel) = &mut self.channel {
             push_accepted(self.version, channel.key(), window, &mut self.output)?;
             channel.accept(window);
-            channel.emit(self.alloc, self.version, &mut self.output)?;
+            channel.emit(self.alloc, &mut self.output)?;
         }
         Ok(())
     }
@@ -396,10 +440,23 @@ impl MuxEnd {
             return Ok(0);
         };
         let count = channel.read(max, out)?;
-        if count > 0 && running && channel.is_accepted() {
+        if count > 0 && running && channel.acknowledges() {
             push_processed(self.version, channel.key(), count as u64, &mut self.output)?;
         }
         Ok(count)
+    }
+
+    fn is_ready(&self) -> bool
+        ensures { result ≡ is_ready_end self.now }
+    {
+        self.version == Version::Three || self.greeting.is_some()
+    }
+
+    /// Which ids are this end's own.
+    fn party(&self) -> Party
+        ensures { result ≡ own_party self.now }
+    {
+        self.greeting.unwrap_or(Party::Neither)
     }
 
     fn is_running(&self) -> bool
@@ -412,13 +469,12 @@ impl MuxEnd {
     }
 
     fn hear_channel(&mut self, key: ChannelKey, peer_window: u64)
-        requires id_above { 0 < key.id }
-        requires id_below { key.id < 0x8000000000000000 }
+        requires fits { fits_id self.old.version key.id ≡ true }
         requires peers { key.own ≡ false }
         requires window { peer_window < 0x8000000000000000 }
-        ensures { self.new ≡ with_lane (heard_lane key peer_window) self.old }
+        ensures { self.new ≡ with_lane (heard_lane self.old.version key peer_window) self.old }
     {
-        self.channel = Some(Channel::heard(self.alloc, key, peer_window));
+        self.channel = Some(Channel::heard(self.alloc, self.version, key, peer_window));
     }
 
     fn take_answer(&mut self, peer_window: u64) -> Result<(), OutOfMemory>
@@ -430,7 +486,7 @@ impl MuxEnd {
     {
         if let Some(channel) = &mut self.channel {
             channel.answer(peer_window);
-            channel.emit(self.alloc, self.version, &mut self.output)?;
+            channel.emit(self.alloc, &mut self.output)?;
         }
         Ok(())
     }
@@ -452,7 +508,7 @@ impl MuxEnd {
     {
         if let Some(channel) = &mut self.channel {
             channel.credit(count);
-            channel.emit(self.alloc, self.version, &mut self.output)?;
+            channel.emit(self.alloc, &mut self.output)?;
         }
         Ok(())
     }
@@ -494,7 +550,7 @@ impl MuxEnd {
     /// Takes what a frame that isn't refused says.
     fn take(&mut self, key: ChannelKey, frame: Frame) -> Result<MuxEvent, OutOfMemory>
         requires passes { lane_frame_refusal self.old.channel key (body_of frame.code frame.payload) ≡ None }
-        requires ranges { IsInRange frame }
+        requires fits { fits self.old.version frame ≡ true }
         requires id { key.id ≡ frame.id }
         ensures event { IfOk result (λ e. e ≡ heeded_event key (body_of frame.code frame.payload)) }
         ensures end { OnOk result (self.new ≡ end_after key (body_of frame.code frame.payload) self.old) }
@@ -526,7 +582,7 @@ impl MuxEnd {
         ensures answers { AppliesFront self.old self.new (front self.old.version self.old.rest) result }
         ensures terms { KeepsTerms self.old self.new }
     {
-        match first_frame(self.alloc, self.version, &self.rest, Place(self.at)) {
+        match self.reader.front() {
             FrameStep::Got(frame, size) => self.apply(frame, size),
             FrameStep::Short => MuxStep::Short,
             FrameStep::Refused(place, reason) => self.refuse(place, reason),
@@ -537,13 +593,14 @@ impl MuxEnd {
     /// Applies a frame that takes so many bytes.
     fn apply(&mut self, frame: Frame, size: usize) -> MuxStep
         requires within { size ≤ length self.old.rest }
-        requires ranges { IsInRange frame }
-        ensures answers { AppliesFrame self.old self.new (taken_frame Neither frame) size (end_refusal (taken_frame Neither frame) self.old) result }
+        requires fits { fits self.old.version frame ≡ true }
+        ensures answers { AppliesFrame self.old self.new (taken_frame (own_party self.old) frame) size (end_refusal (taken_frame (own_party self.old) frame) self.old) result }
         ensures terms { KeepsTerms self.old self.new }
     {
-        let key = key_of(&frame);
+        let key = key_of(self.party(), &frame);
         if let Some(reason) = self.frame_refusal(key, &frame) {
-            return self.refuse(Place(self.at), reason);
+            let place = self.reader.place();
+            return self.refuse(place, reason);
         }
         match self.take(key, frame) {
             Ok(event) => {
@@ -551,6 +608,25 @@ impl MuxEnd {
                 MuxStep::Event(event)
             }
             Err(_) => self.starve(),
+        }
+    }
+
+    /// Applies the peer's handshake at the front of the rest, if it is whole.
+    fn greet(&mut self) -> MuxStep
+        ensures answers { AppliesHandshake self.old self.new (handshake self.old.version self.old.nonce self.old.rest) result }
+        ensures terms { KeepsTerms self.old self.new }
+    {
+        match shake(self.version, &self.nonce, self.reader.unread()) {
+            Shaken::Done(party, size) => {
+                self.greeting = Some(party);
+                self.advance(size);
+                MuxStep::Event(MuxEvent::Ready)
+            }
+            Shaken::Short => MuxStep::Short,
+            Shaken::Refused(place, reason) => {
+                let start = self.reader.place();
+                self.refuse(Place(start.0 + place.0), reason)
+            }
         }
     }
 
@@ -577,7 +653,7 @@ impl MuxEnd {
     fn would_be_spent(&self, count: usize) -> bool
         ensures { result ≡ nat_lt most_bytes (self.now.at + length self.now.rest + count) }
     {
-        MOST_FED - (self.at + self.rest.len() as u64) < count as u64
+        MOST_FED - self.reader.fed() < count as u64
     }
 
     fn keep(&mut self, piece: &[u8]) -> Result<(), OutOfMemory>
@@ -585,17 +661,16 @@ impl MuxEnd {
         ensures end { OnOk result (self.new ≡ with_rest (self.old.rest ++ piece.now) self.old) }
         ensures terms { KeepsTerms self.old self.new }
     {
-        self.rest.extend_from_slice(piece)?;
+        self.reader.feed(piece)?;
         Ok(())
     }
 
-    /// A whole frame of so many bytes was applied.
+    /// A whole frame or handshake of so many bytes was applied.
     fn advance(&mut self, size: usize)
         requires { size ≤ length self.old.rest }
         ensures { self.new ≡ with_applied size self.old }
     {
-        self.at += size as u64;
-        self.rest.drain(..size);
+        self.reader.skip(size);
     }
 
     /// Memory ran out.

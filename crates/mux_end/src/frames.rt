@@ -1,18 +1,15 @@
 //! The frames that an end sends and takes.
 
-ghost use Rattle.frame_text.specs.Codec.{Decodes, is_packed};
-ghost use Rattle.frame_text.specs.Frames.{fits, text};
-ghost use Rattle.frame_text.specs.Reading.{front};
-ghost use Rattle.mux_end.specs.Ranges.{IsStepInRange};
-ghost use Rattle.mux_items.specs.Bodies.{Content, ContentProcessed, Offer, OfferAccepted, frame_on, frame_text, frame_texts, origin_of};
-ghost use Rattle.mux_items.specs.Due.{content_frames};
-ghost use Rattle.std.specs.Prelude.{◌≡◌, ◌≤◌, ◌<◌, ◌++◌, ◌^◌, length, true, OnOk, Some};
+ghost use Rattle.frame_text.specs.Frames.{fits, fits_id, text};
+ghost use Rattle.mux_items.specs.Bodies.{Content, ContentProcessed, Offer, OfferAccepted, frame_on, frame_text, frame_texts, is_one, origin_of};
+ghost use Rattle.mux_items.specs.Due.{content_frames, written_window};
+ghost use Rattle.std.specs.Prelude.{◌≡◌, ◌≤◌, ◌<◌, ◌++◌, length, false, true, OnOk};
 
-use frame_pack::PackCodec;
+use frame_reader::AnyCodec;
 use frame_text::FrameCodec;
 use mux_items::ChannelKey;
 use std::alloc::Global;
-use wire_base::{Blob, Code, Frame, FrameStep, Origin, OutOfMemory, Payload, Place, Text, Version};
+use wire_base::{Blob, Code, Frame, Origin, OutOfMemory, Payload, Text, Version};
 
 /// The most bytes of one content frame.
 const PIECE_SIZE: usize = 20_480;
@@ -44,22 +41,20 @@ fn frame(version: Version, key: ChannelKey, code: Code, payload: Payload) -> Fra
 }
 
 fn push_frame(version: Version, frame: &Frame, out: &mut Vec<u8>) -> Result<(), OutOfMemory>
-    requires packed { is_packed version ≡ true }
     requires fits { fits version frame.now ≡ true }
     ensures { OnOk result (out.new.items ≡ out.old.items ++ text version frame.now) }
 {
-    PackCodec::new(version).encode(frame, out)
+    AnyCodec::new(version).encode(frame, out)
 }
 
-/// What stands at the front of the bytes, of which the first stands at this place.
-#[tactic(auto, using(crate::proofs::Ranges::ranges))]
-pub fn first_frame(alloc: Global, version: Version, bytes: &[u8], at: Place) -> FrameStep
-    requires packed { is_packed version ≡ true }
-    requires near { at.0 ≤ 2 ^ 63 }
-    ensures front { Decodes result bytes.now at (front version bytes.now) }
-    ensures ranges { IsStepInRange result }
+/// A window as it is written: version 1 has none.
+fn written_window(version: Version, window: u32) -> Option<u64>
+    ensures { result ≡ written_window version window }
 {
-    PackCodec::new(version).decode(alloc, bytes, at)
+    match version {
+        Version::One => None,
+        Version::Two | Version::Three => Some(u64::from(window)),
+    }
 }
 
 /// Writes an offer at the end of the output.
@@ -72,14 +67,12 @@ pub fn push_offer(
     window: u32,
     out: &mut Vec<u8>,
 ) -> Result<(), OutOfMemory>
-    requires packed { is_packed version ≡ true }
-    requires id_above { 0 < key.id }
-    requires id_below { key.id < 0x8000000000000000 }
+    requires id { fits_id version key.id ≡ true }
     requires short { length name.now ≤ 1024 }
-    ensures { OnOk result (out.new.items ≡ out.old.items ++ frame_text version (frame_on key (Offer name.now (Some window)))) }
+    ensures { OnOk result (out.new.items ≡ out.old.items ++ frame_text version (frame_on key (Offer name.now (written_window version window)))) }
 {
     let name = Text::from_str(alloc, name.as_str())?;
-    let payload = Payload::Offer(name, Some(u64::from(window)));
+    let payload = Payload::Offer(name, written_window(version, window));
     push_frame(version, &frame(version, key, Code::Offer, payload), out)
 }
 
@@ -91,12 +84,10 @@ pub fn push_accepted(
     window: u32,
     out: &mut Vec<u8>,
 ) -> Result<(), OutOfMemory>
-    requires packed { is_packed version ≡ true }
-    requires id_above { 0 < key.id }
-    requires id_below { key.id < 0x8000000000000000 }
-    ensures { OnOk result (out.new.items ≡ out.old.items ++ frame_text version (frame_on key (OfferAccepted (Some window)))) }
+    requires id { fits_id version key.id ≡ true }
+    ensures { OnOk result (out.new.items ≡ out.old.items ++ frame_text version (frame_on key (OfferAccepted (written_window version window)))) }
 {
-    let payload = Payload::Accepted(Some(u64::from(window)));
+    let payload = Payload::Accepted(written_window(version, window));
     push_frame(
         version,
         &frame(version, key, Code::OfferAccepted, payload),
@@ -112,9 +103,8 @@ pub fn push_processed(
     count: u64,
     out: &mut Vec<u8>,
 ) -> Result<(), OutOfMemory>
-    requires packed { is_packed version ≡ true }
-    requires id_above { 0 < key.id }
-    requires id_below { key.id < 0x8000000000000000 }
+    requires id { fits_id version key.id ≡ true }
+    requires windows { is_one version ≡ false }
     requires count { count < 0x8000000000000000 }
     ensures { OnOk result (out.new.items ≡ out.old.items ++ frame_text version (frame_on key (ContentProcessed count))) }
 {
@@ -134,10 +124,8 @@ fn push_piece(
     piece: &[u8],
     out: &mut Vec<u8>,
 ) -> Result<(), OutOfMemory>
-    requires packed { is_packed version ≡ true }
-    requires id_above { 0 < key.id }
-    requires id_below { key.id < 0x8000000000000000 }
-    requires short { length piece.now ≤ 0x100000 }
+    requires id { fits_id version key.id ≡ true }
+    requires short { length piece.now ≤ 20480 }
     ensures { OnOk result (out.new.items ≡ out.old.items ++ frame_text version (frame_on key (Content piece.now))) }
 {
     let payload = Payload::Content(Blob::from_bytes(alloc, piece)?);
@@ -152,9 +140,7 @@ pub fn push_content(
     bytes: &[u8],
     out: &mut Vec<u8>,
 ) -> Result<(), OutOfMemory>
-    requires packed { is_packed version ≡ true }
-    requires id_above { 0 < key.id }
-    requires id_below { key.id < 0x8000000000000000 }
+    requires id { fits_id version key.id ≡ true }
     ensures { OnOk result (out.new.items ≡ out.old.items ++ frame_texts version (content_frames key bytes.now)) }
 {
     let mut left = bytes;

@@ -15,7 +15,6 @@ named channel lane key is same = sym (ap (λ c. lane_tally c key) is ∙ ap (λ 
 pub returns-in-Some : goal.returns-in-Some
 returns-in-Some c = λ items at rest s.
     let self = c.args.self.now in
-    let three = ap (λ (e : EndValue). e.version) (sym c.self.view_is) ∙ c.self.invariant.is_three in
     ap Some c.tally.ensures
     ∙ (named self.channel c.in-Some.channel c.args.key (ap (λ (e : EndValue). e.channel) (sym c.self.view_is) ∙ c.in-Some.is) (sym c.has_key.ensures ∙ c.if-has_key.true)
-    ∙ sym (shows_tally self items at rest c.args.key s three))
+    ∙ sym (shows_tally self items at rest c.args.key s))

@@ -16,7 +16,6 @@ named state channel lane key is same = sym (ap (λ c. lane_view state c key) is 
 pub returns-in-Some : goal.returns-in-Some
 returns-in-Some c = λ items at rest s.
     let self = c.args.self.now in
-    let three = ap (λ (e : EndValue). e.version) (sym c.self.view_is) ∙ c.self.invariant.is_three in
     ap Some (c.view.ensures ∙ ap (λ (e : EndValue). shown_lane e.state c.in-Some.channel) c.self.view_is)
     ∙ (named self.state self.channel c.in-Some.channel c.args.key (ap (λ (e : EndValue). e.channel) (sym c.self.view_is) ∙ c.in-Some.is) (sym c.has_key.ensures ∙ c.if-has_key.true)
-    ∙ sym (shows_view self items at rest c.args.key s three))
+    ∙ sym (shows_view self items at rest c.args.key s))

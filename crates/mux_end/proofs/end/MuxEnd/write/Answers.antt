@@ -8,13 +8,12 @@ use Rattle.mux_end.proofs.end.MuxEnd.write.Goals as goal
 
 pub returns-in-Some-clause-answers : goal.returns-in-Some-clause-answers
 returns-in-Some-clause-answers c = λ items at rest s.
-    call_refused _ items at rest _ _ _ _ (refuses_write _ items at rest c.args.key c.args.bytes.now s c.in-Some.ensures.three ∙ sym c.in-Some.ensures.refusal)
+    call_refused _ items at rest _ _ _ _ (refuses_write _ items at rest c.args.key c.args.bytes.now s ∙ sym c.in-Some.ensures)
 
 pub returns-in-Ok-clause-answers : goal.returns-in-Ok-clause-answers
 returns-in-Ok-clause-answers c = λ items at rest s.
     let self = c.args.self.now in
-    let three = c.write_refusal.ensures.three in
-    let none : lane_write_refusal self.state self.channel c.args.key c.args.bytes.now ≡ None = grind (arith, c.in_default.is, c.in_default.not-Some, c.write_refusal.ensures.refusal) in
-    call_done _ _ items at rest _ _ _ _ (refuses_write self items at rest c.args.key c.args.bytes.now s three ∙ none)
-    (subst (λ e. Adds self e items at rest (DidWrite c.args.key c.args.bytes.now)) (sym (c.in-Ok.ensures.end)) (adds_written self items at rest c.args.key c.args.bytes.now s three none))
+    let none : lane_write_refusal self.state self.channel c.args.key c.args.bytes.now ≡ None = grind (arith, c.in_default.is, c.in_default.not-Some, c.write_refusal.ensures) in
+    call_done _ _ items at rest _ _ _ _ (refuses_write self items at rest c.args.key c.args.bytes.now s ∙ none)
+    (subst (λ e. Adds self e items at rest (DidWrite c.args.key c.args.bytes.now)) (sym (c.in-Ok.ensures.end)) (adds_written self items at rest c.args.key c.args.bytes.now s none))
     tt
