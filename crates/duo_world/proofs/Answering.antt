@@ -1,12 +1,11 @@
 -- What a step answers.
 use Rattle.std.specs.Prelude.{true, false, is_none}
-use Rattle.std.proofs.Common.{◌≡◌, ℕ, ◌≤◌, List, [], ◌∷◌, ◌++◌, length, refl, sym, ◌∙◌, ap, ap₂, subst, arith, length-append, Some, None, Result, Ok, Err, IfOk}
+use Rattle.std.proofs.Common.{◌≡◌, ℕ, List, [], ◌∷◌, ◌++◌, length, refl, sym, ◌∙◌, ap, ap₂, subst, arith, length-append, Some, None, Result, Ok, Err, IfOk}
 use Rattle.std.proofs.lemmas.List.{append-nil}
 use Rattle.wire_base.specs.declared.frame.Version.{Version}
-use Rattle.wire_base.specs.declared.frame.Version.TheVariants as version
 use Rattle.wire_base.specs.declared.out_of_memory.OutOfMemory.{OutOfMemory}
 use Rattle.mux_items.specs.Items.{Item, is_running, ended}
-use Rattle.mux_items.specs.Due.{sent, got}
+use Rattle.mux_items.specs.Due.{got}
 use Rattle.mux_run.specs.declared.steps.Side.{Side}
 use Rattle.mux_run.specs.declared.steps.Call.{Call}
 use Rattle.mux_run.specs.declared.steps.Call.TheVariants as call
@@ -15,8 +14,9 @@ use Rattle.mux_run.specs.declared.answers.Reply.{Reply}
 use Rattle.mux_run.specs.declared.answers.EndEvent.{EndEvent}
 use Rattle.mux_run.specs.declared.answers.DuoAnswer.{DuoAnswer}
 use Rattle.mux_run.specs.declared.answers.DuoAnswer.TheVariants as duo
-use Rattle.mux_run.specs.Run.{Half, Ways, whole_frames, settled, call_refusal, item_of_call, unless_refused, called, half_after}
+use Rattle.mux_run.specs.Run.{Half, Ways, settled, call_refusal, item_of_call, unless_refused, called, half_after}
 use Rattle.mux_run.specs.Answers.{reply_to, events_since, event_list, answer_at}
+use Rattle.mux_run.proofs.Fed.{lie_same, greeting_called}
 use Rattle.mux_run.proofs.Growing.{called_grown}
 use Rattle.mux_end.specs.Stands.{EndValue}
 use Rattle.mux_end.specs.Tests.{is_running_state}
@@ -24,7 +24,7 @@ use Rattle.duo_world.specs.Settling.{half, IsOnWay, IsSettled}
 use Rattle.duo_world.specs.Stepping.{IsCallable, IsReadyFor, AreStanding, Calls, Delivers, CallAnswersAt, StepAnswersAt}
 use Rattle.duo_world.proofs.Settling.{settled_stopped}
 use Rattle.duo_world.proofs.Going.{events_more, events_none}
-use Rattle.duo_world.proofs.Feeding.{runs_as, lies_within, peer_stays}
+use Rattle.duo_world.proofs.Feeding.{runs_as, peer_stays}
 
 -- a call ends no end, and has no event of its own
 
@@ -66,9 +66,9 @@ called_on w c side own new peer events x y r running none h =
     let same : got (called v c x.items) ≡ got x.items = g.applied ∙ append-nil (got x.items) in
     record {
       settling = record {
-        three = h.three;
+        nonces = r.nonces;
         way = r.plain.way;
-        within = subst (λ fs. length fs ≤ length (whole_frames v x.delivered (sent v y.items))) (sym same) (lies_within w x y h.three r.fed);
+        lie = lie_same w x.delivered x.items (called v c x.items) y same (greeting_called v c x.items) r.fed.lie;
         sayable = h.sayable;
         sayable_peer = r.peer_stands.sayable;
       };
@@ -79,11 +79,11 @@ called_on w c side own new peer events x y r running none h =
     }
 
 -- the answer of a call at an end that runs
-pub called_settled : (w : Ways) (c : Call) (side : Side) (new : EndValue) (reply : Reply) (events : List EndEvent) (x y : Half) → w.version ≡ version.Three → reply ≡ reply_to w.version c x.items
+pub called_settled : (w : Ways) (c : Call) (side : Side) (new : EndValue) (reply : Reply) (events : List EndEvent) (x y : Half) → reply ≡ reply_to w.version c x.items
     → IsSettled w (length x.items) new events (settled w x.delivered (called w.version c x.items) y) y
     → (duo.Replied reply events ≡ answer_at w (step.Call side c) x y) × IsCallable w new (half_after w (step.Call side c) x y) y
-called_settled w c side new reply events x y three is s =
-    (ap₂ (λ r es. duo.Replied r es) is s.events_are, record { three = three; stands = s.stands; sayable = s.sayable })
+called_settled w c side new reply events x y is s =
+    (ap₂ (λ r es. duo.Replied r es) is s.events_are, record { stands = s.stands; sayable = s.sayable })
 
 -- the answer at one that doesn't
 pub called_stopped : (w : Ways) (c : Call) (side : Side) (own new peer : EndValue) (reply : Reply) (events : List EndEvent) (x y : Half) → IsReadyFor w (step.Call side c) own peer x y → is_running_state own.state ≡ false → events ≡ []
@@ -93,7 +93,7 @@ called_stopped w c side own new peer reply events x y r stopped none h =
     let v = w.version in
     let items = called v c x.items in
     let idle : is_running items ≡ false = called_runs v c x.items ∙ (sym (runs_as w own x y r.own_stands.stands) ∙ stopped) in
-    let same : (settled w x.delivered items y).items ≡ items = settled_stopped w x.delivered items y h.1.three idle in (
+    let same : (settled w x.delivered items y).items ≡ items = settled_stopped w x.delivered items y idle in (
       ap₂ (λ r es. duo.Replied r es) h.0 (none ∙ sym (ap (events_since v (length x.items)) same ∙ called_events v c x.items)),
       subst (λ now. IsCallable w new (half now x.delivered) y) (sym same) h.1,
     )
@@ -103,7 +103,7 @@ pub called_both : (w : Ways) (c : Call) (side : Side) (own new peer : EndValue) 
     → AreStanding w new peer (half_after w (step.Call side c) x y) y
 called_both w c side own new peer x y r h = record {
   own_stands = h;
-  peer_stands = record { three = h.three; stands = peer_stays w (step.Call side c) peer x y h.three r.joined r.peer_stands.stands; sayable = r.peer_stands.sayable };
+  peer_stands = record { stands = peer_stays w (step.Call side c) peer x y r.joined r.peer_stands.stands; sayable = r.peer_stands.sayable };
 }
 
 -- the answer of a delivery

@@ -1,9 +1,11 @@
 -- A call of an end.
 use Rattle.std.specs.Prelude.{if◌then◌else◌, nat_lt, nat_le, not, Bool, true, false, IsUtf8}
 use Rattle.std.proofs.Common.{◌≡◌, ℕ, ◌+◌, ◌^◌, ◌<◌, ◌≤◌, List, ◌∷◌, ◌++◌, length, refl, sym, ◌∙◌, ap, subst, arith, Option, Some, None, Result, Ok, Err, IfOk}
-use Rattle.std.proofs.lemmas.Bool.{and_parts, ltb-false, leb-false}
+use Rattle.std.proofs.lemmas.Bool.{and_parts, lt-ltb, ltb-false, leb-false, not-false}
 use Rattle.std.proofs.lemmas.Str.{is_utf8-from_IsUtf8}
 use Rattle.wire_base.specs.declared.frame.Version.{Version}
+use Rattle.wire_base.specs.declared.frame.Version.TheVariants as version
+use Rattle.frame_text.specs.Frames.{fits_id}
 use Rattle.wire_base.specs.declared.refusal.Refusal.{Refusal}
 use Rattle.wire_base.specs.declared.refusal.Refusal.TheVariants as refusal
 use Rattle.wire_base.specs.declared.state.Cause.{Cause}
@@ -13,11 +15,12 @@ use Rattle.wire_base.specs.declared.fault.CallFault.TheVariants as fault
 use Rattle.mux_items.specs.declared.channel.ChannelKey.{ChannelKey}
 use Rattle.mux_items.specs.declared.party.Party.{Party}
 use Rattle.mux_items.specs.declared.party.Party.TheVariants.{Odd, Even, Neither}
-use Rattle.mux_items.specs.Bodies.{frame_texts}
-use Rattle.mux_items.specs.Items.{Item, DidOffer, DidAccept, DidWrite, DidRead, ended, party_of}
+use Rattle.mux_items.specs.Bodies.{frame_texts, has_parity}
+use Rattle.mux_items.specs.Items.{Item, DidOffer, DidAccept, DidWrite, DidRead, ended, greeting, party_of}
 use Rattle.mux_items.specs.Kept.{is_known, is_kept, own_id, own_offers, next_key, most_channels, kept_keys, own_windows}
 use Rattle.mux_items.specs.Due.{due, got}
 use Rattle.mux_items.specs.Refusals.{is_ready, unless_ended, is_bad_window, most_windows, or_else, open_refusal, writing_refusal, offer_refusal, accept_refusal, write_refusal, read_refusal}
+use Rattle.mux_items.specs.Parties.{party_by}
 use Rattle.mux_items.proofs.Permits.{if_none}
 use Rattle.mux_run.specs.declared.steps.Call.{Call}
 use Rattle.mux_run.specs.declared.steps.Call.TheVariants as call
@@ -31,7 +34,8 @@ use Rattle.duo_world.specs.Sayable.{IsSayableKey, IsSayable, AreSayable}
 use Rattle.duo_world.specs.Holding.{place_of, rest_of}
 use Rattle.duo_world.specs.Settling.{half}
 use Rattle.duo_world.specs.Stepping.{IsCallable, Calls, Answered}
-use Rattle.duo_world.proofs.Sayings.{known_sayable}
+use Rattle.duo_world.proofs.Sides.{own_parity}
+use Rattle.duo_world.proofs.Sayings.{ready_party, known_sayable}
 use Rattle.duo_world.proofs.Settling.{half_item}
 
 -- what an accepted call shows
@@ -77,30 +81,51 @@ offerable v name size items e =
     let g = if_none (nat_le 2147483647 (own_offers items)) refusal.TooManyOffers _ f.1 in
     record { short = ltb-false 1024 (length name) b.0; few = leb-false 2147483647 (own_offers items) g.0 }
 
-id_sayable : (party : Party) (k : ℕ) → k < 2147483647 → IsSayableKey (record { id = own_id party (k + 1); own = true })
-id_sayable Odd k h = record { above = omega arith; below = omega arith }
-id_sayable Even k h = record { above = omega arith; below = omega arith }
-id_sayable Neither k h = record { above = omega arith; below = omega arith }
+offer_ready : (v : Version) (name : List ℕ) (size : ℕ) (items : List Item) → offer_refusal v name size items ≡ None → is_ready v items ≡ true
+offer_ready v name size items e = not-false (is_ready v items) (if_none (not (is_ready v items)) refusal.NotReady _ (not_ended (ended items) _ e)).0
+
+id_small : (party : Party) (k : ℕ) → k < 2147483647 → (0 < own_id party (k + 1)) × (own_id party (k + 1) < 0x100000000)
+id_small Odd k h = (omega arith, omega arith)
+id_small Even k h = (omega arith, omega arith)
+id_small Neither k h = (omega arith, omega arith)
+
+-- ids below 2^32 are in every version's range
+id_fits : (v : Version) (id : ℕ) → 0 < id → id < 0x100000000 → fits_id v id ≡ true
+id_fits version.One id a b = rw (lt-ltb 0 id a, lt-ltb id 0x100000000 b) refl
+id_fits version.Two id a b = rw (lt-ltb 0 id a, lt-ltb id 0x8000000000000000 (omega arith)) refl
+id_fits version.Three id a b = rw (lt-ltb 0 id a, lt-ltb id 0x8000000000000000 (omega arith)) refl
+
+-- the next own offer draws an id of the own party
+next_sayable : (w : Ways) (items : List Item) → AreSayable w items → is_ready w.version items ≡ true → own_offers items < 2147483647 → IsSayableKey w (next_key items)
+next_sayable w items s ready few =
+    let k = own_offers items in
+    let small = id_small (party_of items) k few in
+    record {
+      fits = id_fits w.version (own_id (party_of items) (k + 1)) small.0 small.1;
+      side = λ two.
+          let party : party_of items ≡ party_by w.own w.peer = (ready_party w items s ready two).party_is in
+          sym (ap (λ party. has_parity (party_by w.own w.peer) (own_id party (k + 1))) party ∙ own_parity w.own w.peer k);
+    }
 
 -- the item of an accepted call can be said
 
-pub offer_sayable : (v : Version) (name : List ℕ) (size : ℕ) (items : List Item) → IsUtf8 name → size < 2 ^ 32 → offer_refusal v name size items ≡ None → IsSayable (DidOffer (next_key items) name size)
-offer_sayable v name size items text small e =
-    let o = offerable v name size items e in
+pub offer_sayable : (w : Ways) (name : List ℕ) (size : ℕ) (items : List Item) → AreSayable w items → IsUtf8 name → size < 2 ^ 32 → offer_refusal w.version name size items ≡ None → IsSayable w (DidOffer (next_key items) name size)
+offer_sayable w name size items s text small e =
+    let o = offerable w.version name size items e in
     record {
-      key_is = id_sayable (party_of items) (own_offers items) o.few;
+      key_is = next_sayable w items s (offer_ready w.version name size items e) o.few;
       name_is = record { utf8 = is_utf8-from_IsUtf8 name text; short = o.short };
       size_is = omega arith;
     }
 
-pub accept_sayable : (v : Version) (c : ChannelKey) (size : ℕ) (items : List Item) → AreSayable items → size < 2 ^ 32 → accept_refusal v c size items ≡ None → IsSayable (DidAccept c size)
-accept_sayable v c size items s small e = record { key_is = known_sayable c items s (accept_known v c size items e); count_is = omega arith }
+pub accept_sayable : (w : Ways) (c : ChannelKey) (size : ℕ) (items : List Item) → AreSayable w items → size < 2 ^ 32 → accept_refusal w.version c size items ≡ None → IsSayable w (DidAccept c size)
+accept_sayable w c size items s small e = record { key_is = known_sayable w c items s (accept_known w.version c size items e); count_is = omega arith }
 
-pub write_sayable : (v : Version) (c : ChannelKey) (bytes : List ℕ) (items : List Item) → AreSayable items → write_refusal v c bytes items ≡ None → IsSayable (DidWrite c bytes)
-write_sayable v c bytes items s e = known_sayable c items s (write_known v c bytes items e)
+pub write_sayable : (w : Ways) (c : ChannelKey) (bytes : List ℕ) (items : List Item) → AreSayable w items → write_refusal w.version c bytes items ≡ None → IsSayable w (DidWrite c bytes)
+write_sayable w c bytes items s e = known_sayable w c items s (write_known w.version c bytes items e)
 
-pub read_sayable : (v : Version) (c : ChannelKey) (max : ℕ) (items : List Item) → AreSayable items → max < 2 ^ 32 → read_refusal v c items ≡ None → IsSayable (DidRead c max)
-read_sayable v c max items s small e = record { key_is = known_sayable c items s (read_known v c items e); count_is = omega arith }
+pub read_sayable : (w : Ways) (c : ChannelKey) (max : ℕ) (items : List Item) → AreSayable w items → max < 2 ^ 32 → read_refusal w.version c items ≡ None → IsSayable w (DidRead c max)
+read_sayable w c max items s small e = record { key_is = known_sayable w c items s (read_known w.version c items e); count_is = omega arith }
 
 -- what a call answered
 
@@ -111,6 +136,14 @@ got_call (call.Write c bytes) items = refl
 got_call (call.Read c max) items = refl
 got_call (call.Complete c) items = refl
 got_call (call.Terminate c) items = refl
+
+greeting_call : (c : Call) (items : List Item) → greeting (item_of_call c items ∷ items) ≡ greeting items
+greeting_call (call.Offer name size) items = refl
+greeting_call (call.Accept c size) items = refl
+greeting_call (call.Write c bytes) items = refl
+greeting_call (call.Read c max) items = refl
+greeting_call (call.Complete c) items = refl
+greeting_call (call.Terminate c) items = refl
 
 accepted : {A : Type 0} (old new : EndValue) (items : List Item) (at : ℕ) (rest : List ℕ) (r : Option Refusal) (item : Item) (IsAnswer : A → Type 0) (z : A)
     → CallAnswers old new items at rest r item IsAnswer (Ok z) → (r ≡ None) × Adds old new items at rest item × IsAnswer z
@@ -123,7 +156,7 @@ refused old new items at rest None item IsAnswer r' a = absurd a
 refused old new items at rest (Some r) item IsAnswer r' a = (ap (λ r. Some r) (sym a.0), a.1)
 
 pub call_accepted : {A : Type 0} (w : Ways) (c : Call) (old new : EndValue) (x y : Half) (r : Option Refusal) (IsAnswer : A → Type 0) (z : A) → IsCallable w old x y
-    → call_refusal w.version c x.items ≡ r → (r ≡ None → IsSayable (item_of_call c x.items))
+    → call_refusal w.version c x.items ≡ r → (r ≡ None → IsSayable w (item_of_call c x.items))
     → CallAnswers old new x.items (place_of w x y) (rest_of w x y) r (item_of_call c x.items) IsAnswer (Ok z)
     → IsAnswer z × (reply_to w.version c x.items ≡ success w.version c x.items) × IsCallable w new (half (called w.version c x.items) x.delivered) y
 call_accepted w c old new x y r IsAnswer z h is says a =
@@ -135,8 +168,7 @@ call_accepted w c old new x y r IsAnswer z h is says a =
       p.2,
       ap (λ r. refused_or r (success v c x.items)) ok,
       subst (λ items. IsCallable w new (half items x.delivered) y) (sym now) (record {
-        three = h.three;
-        stands = half_item w old new item x.items x.delivered y h.three (got_call c x.items) h.stands p.1.stands (p.1.output ∙ ap (λ v. old.output ++ frame_texts v (due v item x.items)) h.stands.version) p.1.version p.1.nonce;
+        stands = half_item w old new item x.items x.delivered y (got_call c x.items) (greeting_call c x.items) h.stands p.1.stands (p.1.output ∙ ap (λ v. old.output ++ frame_texts v (due v item x.items)) h.stands.version) p.1.version p.1.nonce;
         sayable = (says p.0, h.sayable);
       }),
     )
@@ -156,7 +188,7 @@ call_refused w c old new x y r IsAnswer r' h is a =
 -- the same by what an end answers, whose version is that of the ways
 
 pub call_done : {A : Type 0} (w : Ways) (c : Call) (old new : EndValue) (x y : Half) (IsAnswer : A → Type 0) (z : A) → IsCallable w old x y
-    → (call_refusal w.version c x.items ≡ None → IsSayable (item_of_call c x.items))
+    → (call_refusal w.version c x.items ≡ None → IsSayable w (item_of_call c x.items))
     → CallAnswers old new x.items (place_of w x y) (rest_of w x y) (call_refusal old.version c x.items) (item_of_call c x.items) IsAnswer (Ok z)
     → IsAnswer z × (reply_to w.version c x.items ≡ success w.version c x.items) × IsCallable w new (half (called w.version c x.items) x.delivered) y
 call_done w c old new x y IsAnswer z h says a =

@@ -4,7 +4,6 @@ use Rattle.std.proofs.Common.{◌≡◌, ℕ, ◌+◌, ◌-◌, ◌≤◌, List,
 use Rattle.std.proofs.lemmas.List.{take-append-le, take-append-drop, drop-append-le, drop-drop, append_cancel_left, length-map}
 use Rattle.std.proofs.Math.Seq.{take-add}
 use Rattle.wire_base.specs.declared.frame.Version.{Version}
-use Rattle.wire_base.specs.declared.frame.Version.TheVariants as version
 use Rattle.wire_base.specs.declared.state.Cause.{Cause}
 use Rattle.wire_base.specs.declared.state.Cause.TheVariants as cause
 use Rattle.wire_base.specs.declared.state.EndState.{EndState}
@@ -12,17 +11,18 @@ use Rattle.wire_base.specs.declared.state.EndState.TheVariants as state
 use Rattle.mux_items.specs.Bodies.{ChannelFrame, flip, frame_texts}
 use Rattle.mux_items.specs.Items.{Item, End, is_running, ended}
 use Rattle.mux_items.specs.Due.{due, sent, got}
-use Rattle.mux_items.specs.Refusals.{most_bytes}
+use Rattle.mux_items.specs.Refusals.{is_ready, most_bytes}
 use Rattle.mux_run.specs.declared.steps.Side.{Side}
 use Rattle.mux_run.specs.declared.steps.Step.{Step}
 use Rattle.mux_run.specs.declared.steps.Step.TheVariants as step
 use Rattle.mux_run.specs.declared.answers.EndEvent.{EndEvent}
 use Rattle.mux_run.specs.declared.answers.EndEvent.TheVariants as event
-use Rattle.mux_run.specs.Run.{Half, Ways, turned, out, whole_frames, greeting_size, settled, in_flight, added, is_spent, delivered_to, half_after}
+use Rattle.mux_run.specs.Run.{Half, Ways, turned, out, whole_frames, greeting_size, place_after, settled, in_flight, added, is_spent, delivered_to, half_after}
 use Rattle.mux_run.specs.Answers.{events_since, delivered_count}
 use Rattle.mux_run.specs.Linked.{Joined}
-use Rattle.mux_run.specs.Fed.{IsFed}
-use Rattle.mux_run.proofs.WholeFrames.{frame_texts-append, whole_fits, take_whole, whole_more}
+use Rattle.mux_run.specs.Fed.{LieWithin, IsFed}
+use Rattle.mux_run.proofs.Fed.{lie_more}
+use Rattle.mux_run.proofs.WholeFrames.{frame_texts-append, whole_fits, take_whole}
 use Rattle.mux_run.proofs.Growing.{sent_grows, out-more, half_after_grown}
 use Rattle.mux_end.specs.Stands.{EndValue, MuxStands, state_by}
 use Rattle.mux_end.specs.Ends.{with_output}
@@ -32,7 +32,7 @@ use Rattle.mux_end.specs.Replies as replies
 use Rattle.duo_world.specs.Holding.{place_of, rest_of, HalfStands}
 use Rattle.duo_world.specs.Settling.{half, IsOnWay, IsSettled}
 use Rattle.duo_world.specs.Stepping.{IsReadyFor, AreStanding, Delivers}
-use Rattle.duo_world.proofs.Settling.{no_greeting, place_is, half_item}
+use Rattle.duo_world.proofs.Settling.{half_item}
 use Rattle.duo_world.proofs.Going.{events_more, events_none, running_none}
 
 -- whether an end runs
@@ -46,11 +46,6 @@ runs_as w end x y h = ap is_running_state h.stands.state ∙ state_runs (ended x
 
 -- what x applied of y lies in what was delivered
 
-pub lies_within : (w : Ways) (x y : Half) → w.version ≡ version.Three → IsFed w x y → length (got x.items) ≤ length (whole_frames w.version x.delivered (sent w.version y.items))
-lies_within w x y e f =
-    let none : x.delivered - greeting_size w ≡ x.delivered = omega (arith, no_greeting w e) in
-    subst (λ n. length (got x.items) ≤ length (whole_frames w.version n (sent w.version y.items))) none f.lie.within
-
 place_within : (v : Version) (n k : ℕ) (fs : List ChannelFrame) → k ≤ length (whole_frames v n fs) → length (frame_texts v (take k fs)) ≤ n
 place_within v n k fs h =
     let whole = whole_frames v n fs in
@@ -59,14 +54,18 @@ place_within v n k fs h =
     let texts : frame_texts v whole ≡ front ++ back = ap (frame_texts v) (sym (take-append-drop k whole)) ∙ frame_texts-append v (take k whole) (drop k whole) in
     omega (arith, ap (λ gs. length (frame_texts v gs)) (take_whole v n k fs h), ap length texts, length-append front back, whole_fits v n fs)
 
-pub place_below : (w : Ways) (d : ℕ) (items : List Item) (y : Half) → w.version ≡ version.Three → length (got items) ≤ length (whole_frames w.version d (sent w.version y.items)) → place_of w (half items d) y ≤ d
-place_below w d items y e h = omega (arith, place_is w (half items d) y e, place_within w.version d (length (got items)) (sent w.version y.items) h)
+pub place_below : (w : Ways) (d : ℕ) (items : List Item) (y : Half) → LieWithin w d items y → place_of w (half items d) y ≤ d
+place_below w d items y l = by (is_ready w.version items) refl
+  where
+    by : (b : Bool) → is_ready w.version items ≡ b → (if b then place_after w (length (got items)) y else 0) ≤ d
+    by true ready = omega (arith, l.greeted ready, place_within w.version (d - greeting_size w) (length (got items)) (sent w.version y.items) l.within)
+    by false unready = omega arith
 
 -- the bytes that were fed are those that were delivered
-fed_count : (w : Ways) (x y : Half) → w.version ≡ version.Three → IsFed w x y → x.delivered ≤ length (out w.version w.peer y.items) → place_of w x y + length (rest_of w x y) ≡ x.delivered
-fed_count w x y e f bound =
+fed_count : (w : Ways) (x y : Half) → IsFed w x y → x.delivered ≤ length (out w.version w.peer y.items) → place_of w x y + length (rest_of w x y) ≡ x.delivered
+fed_count w x y f bound =
     let bytes = out w.version w.peer y.items in
-    omega (arith, place_below w x.delivered x.items y e (lies_within w x y e f), length-drop (place_of w x y) (take x.delivered bytes), length-take x.delivered bytes)
+    omega (arith, place_below w x.delivered x.items y f.lie, length-drop (place_of w x y) (take x.delivered bytes), length-take x.delivered bytes)
 
 -- the output of an end is what is in flight from it
 pub in_flight_is : (w : Ways) (peer : EndValue) (x y : Half) → HalfStands (turned w) peer y x → peer.output ≡ in_flight w x y
@@ -75,14 +74,14 @@ in_flight_is w peer x y h =
 
 -- the end y stays, while the items of x grow
 
-pub peer_grows : (w : Ways) (end : EndValue) (y x : Half) (items : List Item) (more : List ChannelFrame) → w.version ≡ version.Three → HalfStands w end y x → sent w.version items ≡ sent w.version x.items ++ more
+pub peer_grows : (w : Ways) (end : EndValue) (y x : Half) (items : List Item) (more : List ChannelFrame) → HalfStands w end y x → sent w.version items ≡ sent w.version x.items ++ more
     → length (got y.items) ≤ length (sent w.version x.items) → y.delivered ≤ length (out w.version w.peer x.items) → HalfStands w end y (half items x.delivered)
-peer_grows w end y x items more e h grown applied bound =
+peer_grows w end y x items more h grown applied bound =
     let v = w.version in
     let k = length (got y.items) in
     let x' = half items x.delivered in
     let front : take k (sent v items) ≡ take k (sent v x.items) = ap (take k) grown ∙ take-append-le k (sent v x.items) more applied in
-    let place : place_of w y x' ≡ place_of w y x = place_is w y x' e ∙ (ap (λ fs. length (frame_texts v fs)) front ∙ sym (place_is w y x e)) in
+    let place : place_of w y x' ≡ place_of w y x = ap (λ fs. if is_ready v y.items then greeting_size w + length (frame_texts v fs) else 0) front in
     let bytes : take y.delivered (out v w.peer items) ≡ take y.delivered (out v w.peer x.items) =
     ap (take y.delivered) (out-more v w.peer x.items items more grown) ∙ take-append-le y.delivered (out v w.peer x.items) (frame_texts v more) bound in
     let rest : rest_of w y x' ≡ rest_of w y x = ap (λ n. drop n (take y.delivered (out v w.peer items))) place ∙ ap (drop (place_of w y x)) bytes in
@@ -95,17 +94,17 @@ peer_grows w end y x items more e h grown applied bound =
     }
 
 -- the end y stays, while x makes a step, but for what is delivered
-pub peer_stays : (w : Ways) (s : Step) (peer : EndValue) (x y : Half) → w.version ≡ version.Three → Joined w x y → HalfStands (turned w) peer y x → HalfStands (turned w) peer y (half (half_after w s x y).items x.delivered)
-peer_stays w s peer x y e j h =
+pub peer_stays : (w : Ways) (s : Step) (peer : EndValue) (x y : Half) → Joined w x y → HalfStands (turned w) peer y x → HalfStands (turned w) peer y (half (half_after w s x y).items x.delivered)
+peer_stays w s peer x y j h =
     let v = w.version in
     let g = half_after_grown w s x y in
     let more = sent_grows v x.items (half_after w s x y).items g.0 g.1 in
     let applied : length (got y.items) ≤ length (sent v x.items) = omega (arith, ap length j.back.applied, length-append (map flip (got y.items)) j.back.ahead, length-map (got y.items) flip) in
-    peer_grows (turned w) peer y x (half_after w s x y).items more.0 e h more.1 applied j.back.bound
+    peer_grows (turned w) peer y x (half_after w s x y).items more.0 h more.1 applied j.back.bound
 
 -- bytes of y's output were taken from it
 stands_output : (end : EndValue) (bytes : List ℕ) (items : List Item) (at : ℕ) (rest : List ℕ) → MuxStands end items at rest → MuxStands (with_output bytes end) items at rest
-stands_output end bytes items at rest s = record { channel = s.channel; at_is = s.at_is; rest_is = s.rest_is; state = s.state; built = s.built; allowed = s.allowed }
+stands_output end bytes items at rest s = record { greeting = s.greeting; channel = s.channel; at_is = s.at_is; rest_is = s.rest_is; state = s.state; built = s.built; allowed = s.allowed }
 
 pub peer_took : (w : Ways) (m : ℕ) (peer : EndValue) (items : List Item) (d : ℕ) (y : Half) → HalfStands (turned w) peer y (half items d) → m ≤ length peer.output
     → HalfStands (turned w) (with_output (drop m peer.output) peer) y (half items (d + m))
@@ -122,28 +121,23 @@ peer_took w m peer items d y h small =
 
 -- x was given m bytes more
 
-fed_rest : (w : Ways) (m : ℕ) (x y : Half) → w.version ≡ version.Three → IsFed w x y → x.delivered ≤ length (out w.version w.peer y.items)
+fed_rest : (w : Ways) (m : ℕ) (x y : Half) → IsFed w x y → x.delivered ≤ length (out w.version w.peer y.items)
     → rest_of w (half x.items (x.delivered + m)) y ≡ rest_of w x y ++ take m (in_flight w x y)
-fed_rest w m x y e f bound =
+fed_rest w m x y f bound =
     let bytes = out w.version w.peer y.items in
     let place = place_of w x y in
-    let within : place ≤ length (take x.delivered bytes) = omega (arith, place_below w x.delivered x.items y e (lies_within w x y e f), length-take x.delivered bytes) in
+    let within : place ≤ length (take x.delivered bytes) = omega (arith, place_below w x.delivered x.items y f.lie, length-take x.delivered bytes) in
     ap (drop place) (take-add x.delivered m bytes) ∙ drop-append-le place (take x.delivered bytes) (take m (drop x.delivered bytes)) within
 
-half_fed : (w : Ways) (m : ℕ) (own fed : EndValue) (x y : Half) (piece : List ℕ) → w.version ≡ version.Three → IsFed w x y → x.delivered ≤ length (out w.version w.peer y.items) → HalfStands w own x y
+half_fed : (w : Ways) (m : ℕ) (own fed : EndValue) (x y : Half) (piece : List ℕ) → IsFed w x y → x.delivered ≤ length (out w.version w.peer y.items) → HalfStands w own x y
     → piece ≡ take m (in_flight w x y) → KeepsPiece own fed x.items (place_of w x y) (rest_of w x y) piece → HalfStands w fed (half x.items (x.delivered + m)) y
-half_fed w m own fed x y piece e f bound h is k = record {
-  stands = subst (MuxStands fed x.items (place_of w x y)) (ap (λ bs. rest_of w x y ++ bs) is ∙ sym (fed_rest w m x y e f bound)) k.stands;
+half_fed w m own fed x y piece f bound h is k = record {
+  stands = subst (MuxStands fed x.items (place_of w x y)) (ap (λ bs. rest_of w x y ++ bs) is ∙ sym (fed_rest w m x y f bound)) k.stands;
   output = ap (λ bs. take y.delivered (out w.version w.own x.items) ++ bs) k.output ∙ h.output;
   bound = h.bound;
   version = k.version ∙ h.version;
   nonce = k.nonce ∙ h.nonce;
 }
-
-within_more : (v : Version) (n m k : ℕ) (fs : List ChannelFrame) → k ≤ length (whole_frames v n fs) → k ≤ length (whole_frames v (n + m) fs)
-within_more v n m k fs h =
-    let more = whole_more v n (n + m) fs (omega arith) in
-    omega (arith, ap length more.1, length-append (whole_frames v n fs) more.0)
 
 -- what feeding answered, at an end that runs
 
@@ -171,9 +165,9 @@ spent_by own fed items at rest piece s c true e (spent r k) = (refl, cc (e, r), 
 
 -- the sides of a delivery
 
-spent_same : (w : Ways) (n : ℕ) (x y : Half) (piece : List ℕ) → w.version ≡ version.Three → IsFed w x y → x.delivered ≤ length (out w.version w.peer y.items) → length piece ≡ added w n x y
+spent_same : (w : Ways) (n : ℕ) (x y : Half) (piece : List ℕ) → IsFed w x y → x.delivered ≤ length (out w.version w.peer y.items) → length piece ≡ added w n x y
     → replies.is_spent (place_of w x y) (rest_of w x y) piece ≡ is_spent w n x y
-spent_same w n x y piece e f bound size = ap (λ k. nat_lt most_bytes (k + length piece)) (fed_count w x y e f bound) ∙ ap (λ k. nat_lt most_bytes (x.delivered + k)) size
+spent_same w n x y piece f bound size = ap (λ k. nat_lt most_bytes (k + length piece)) (fed_count w x y f bound) ∙ ap (λ k. nat_lt most_bytes (x.delivered + k)) size
 
 delivered_stopped : (w : Ways) (n : ℕ) (x y : Half) → is_running x.items ≡ false → delivered_to w n x y ≡ x
 delivered_stopped w n x y e = ap (λ b. if not b then x else if is_spent w n x y then record { items = End cause.Spent ∷ x.items; delivered = x.delivered } else settled w (x.delivered + added w n x y) x.items y) e
@@ -214,7 +208,6 @@ pub delivers_on : (w : Ways) (n m : ℕ) (side : Side) (own fed peer : EndValue)
     → FeedAnswers own fed x.items (place_of w x y) (rest_of w x y) piece (ended x.items) (replies.is_spent (place_of w x y) (rest_of w x y) piece) (Ok s) → s ≡ state.Running
     → IsOnWay w (x.delivered + m) (length x.items) fed events x.items y × (m ≡ added w n x y) × (is_running x.items ≡ true) × (is_spent w n x y ≡ false)
 delivers_on w n m side own fed peer events piece s x y r running none count is answers goes =
-    let three = r.own_stands.three in
     let bound = r.joined.into.bound in
     let at = place_of w x y in
     let rest = rest_of w x y in
@@ -225,20 +218,20 @@ delivers_on w n m side own fed peer events piece s x y r running none count is a
     let k = kept_by own fed x.items at rest piece s (replies.is_spent at rest piece) goes (feeding own fed x.items at rest piece s runs answers) in (
       record {
         settling = record {
-          three = three;
+          nonces = r.nonces;
           way = r.plain.way;
-          within = within_more w.version x.delivered m (length (got x.items)) (sent w.version y.items) (lies_within w x y three r.fed);
+          lie = lie_more w x.delivered (x.delivered + m) x.items y (omega arith) r.fed.lie;
           sayable = r.own_stands.sayable;
           sayable_peer = r.peer_stands.sayable;
         };
-        stands = half_fed w m own fed x y piece three r.fed bound r.own_stands.stands (is ∙ ap (take m) flight) k.1;
+        stands = half_fed w m own fed x y piece r.fed bound r.own_stands.stands (is ∙ ap (take m) flight) k.1;
         runs = runs;
         newer = omega arith;
         events_are = none ∙ sym (events_none w.version (length x.items) x.items (omega arith));
       },
       size,
       runs,
-      sym (spent_same w n x y piece three r.fed bound long) ∙ k.0,
+      sym (spent_same w n x y piece r.fed bound long) ∙ k.0,
     )
 
 pub delivers_kept : (w : Ways) (n m : ℕ) (side : Side) (own new peer peer' : EndValue) (events : List EndEvent) (x y : Half) → IsReadyFor w (step.Deliver side n) own peer x y
@@ -248,13 +241,13 @@ delivers_kept w n m side own new peer peer' events x y r facts small took done =
     let v = w.version in
     let same : settled w (x.delivered + m) x.items y ≡ delivered_to w n x y = ap (λ k. settled w (x.delivered + k) x.items y) facts.0 ∙ sym (delivered_kept w n x y facts.1 facts.2) in
     let stays : HalfStands (turned w) peer y (half (settled w (x.delivered + m) x.items y).items x.delivered) =
-    subst (λ x'. HalfStands (turned w) peer y (half x'.items x.delivered)) (sym same) (peer_stays w (step.Deliver side n) peer x y r.own_stands.three r.joined r.peer_stands.stands) in
+    subst (λ x'. HalfStands (turned w) peer y (half x'.items x.delivered)) (sym same) (peer_stays w (step.Deliver side n) peer x y r.joined r.peer_stands.stands) in
     let taken : HalfStands (turned w) (with_output (drop m peer.output) peer) y (settled w (x.delivered + m) x.items y) = peer_took w m peer (settled w (x.delivered + m) x.items y).items x.delivered y stays small in (
       facts.0 ∙ sym (count_kept w n x y facts.1 facts.2),
       done.events_are ∙ ap (λ x'. events_since v (length x.items) x'.items) same,
       subst (λ x'. AreStanding w new peer' x' y) same (record {
-        own_stands = record { three = r.own_stands.three; stands = done.stands; sayable = done.sayable };
-        peer_stands = record { three = r.own_stands.three; stands = subst (λ end. HalfStands (turned w) end y (settled w (x.delivered + m) x.items y)) (sym took) taken; sayable = r.peer_stands.sayable };
+        own_stands = record { stands = done.stands; sayable = done.sayable };
+        peer_stands = record { stands = subst (λ end. HalfStands (turned w) end y (settled w (x.delivered + m) x.items y)) (sym took) taken; sayable = r.peer_stands.sayable };
       }),
     )
 
@@ -265,7 +258,6 @@ pub delivers_spent : (w : Ways) (n m : ℕ) (side : Side) (own new peer : EndVal
     → events' ≡ events ++ event.Ended c ∷ [] → Delivers w n new peer events' x y 0
 delivers_spent w n m side own new peer events events' piece s c x y r running none count is answers ends pushed =
     let v = w.version in
-    let three = r.own_stands.three in
     let bound = r.joined.into.bound in
     let at = place_of w x y in
     let rest = rest_of w x y in
@@ -274,20 +266,19 @@ delivers_spent w n m side own new peer events events' piece s c x y r running no
     let size : m ≡ added w n x y = count ∙ ap (λ bs. min n (length bs)) flight in
     let long : length piece ≡ added w n x y = omega (arith, ap length is, length-take m peer.output, count, size) in
     let k = spent_by own new x.items at rest piece s c (replies.is_spent at rest piece) ends (feeding own new x.items at rest piece s runs answers) in
-    let is_so = sym (spent_same w n x y piece three r.fed bound long) ∙ k.0 in
+    let is_so = sym (spent_same w n x y piece r.fed bound long) ∙ k.0 in
     let item = End cause.Spent in
     let same = delivered_spent w n x y runs is_so in
     let stays : HalfStands (turned w) peer y (half (item ∷ x.items) x.delivered) =
-    subst (λ x'. HalfStands (turned w) peer y (half x'.items x.delivered)) same (peer_stays w (step.Deliver side n) peer x y three r.joined r.peer_stands.stands) in (
+    subst (λ x'. HalfStands (turned w) peer y (half x'.items x.delivered)) same (peer_stays w (step.Deliver side n) peer x y r.joined r.peer_stands.stands) in (
       sym (count_spent w n x y runs is_so),
       pushed ∙ (ap (λ es. es ++ event.Ended c ∷ []) none ∙ (ap (λ c. event.Ended c ∷ []) k.1
           ∙ sym (ap (λ x'. events_since v (length x.items) x'.items) same ∙ (events_more v (length x.items) item x.items (omega arith) ∙ ap (λ es. es ++ event.Ended cause.Spent ∷ []) (events_none v (length x.items) x.items (omega arith)))))),
       subst (λ x'. AreStanding w new peer x' y) (sym same) (record {
         own_stands = record {
-          three = three;
-          stands = half_item w own new item x.items x.delivered y three refl r.own_stands.stands k.2.stands (k.2.output ∙ ap (λ v. own.output ++ frame_texts v (due v item x.items)) r.own_stands.stands.version) k.2.version k.2.nonce;
+          stands = half_item w own new item x.items x.delivered y refl refl r.own_stands.stands k.2.stands (k.2.output ∙ ap (λ v. own.output ++ frame_texts v (due v item x.items)) r.own_stands.stands.version) k.2.version k.2.nonce;
           sayable = (tt, r.own_stands.sayable);
         };
-        peer_stands = record { three = three; stands = stays; sayable = r.peer_stands.sayable };
+        peer_stands = record { stands = stays; sayable = r.peer_stands.sayable };
       }),
     )

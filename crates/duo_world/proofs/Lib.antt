@@ -1,6 +1,8 @@
+pub mod Sides
 pub mod Sayings
 pub mod Fronts
 pub mod Settling
+pub mod Greetings
 pub mod Going
 pub mod Calls
 pub mod Feeding

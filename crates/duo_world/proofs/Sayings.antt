@@ -1,189 +1,206 @@
 -- The frames that an end sends have spellings, and are taken for what they are.
-use Rattle.std.specs.Prelude.{if◌then◌else◌, ◌==◌, nat_lt, not, ◌&&◌, ◌||◌, min, zero, suc, Bool, true, false}
+use Rattle.std.specs.Prelude.{if◌then◌else◌, ◌==◌, not, ◌&&◌, ◌||◌, min, zero, suc, Bool, true, false}
 use Rattle.std.specs.List.{list_any}
-use Rattle.std.proofs.Common.{◌≡◌, ℕ, ◌<◌, List, [], ◌∷◌, ◌++◌, length, take, drop, map, refl, sym, ◌∙◌, ap, subst, inl, inr, arith, length-take, Some}
-use Rattle.std.proofs.lemmas.Bool.{cases_Bool, and_parts, lt-ltb, ltb-true}
+use Rattle.std.specs.Str.{bytes_eq}
+use Rattle.std.proofs.Common.{◌≡◌, ℕ, ◌<◌, List, [], ◌∷◌, ◌++◌, length, take, drop, map, refl, sym, ◌∙◌, ap, subst, inl, inr, arith, length-take}
+use Rattle.std.proofs.lemmas.Bool.{cases_Bool}
 use Rattle.wire_base.specs.declared.frame.Version.{Version}
 use Rattle.wire_base.specs.declared.frame.Version.TheVariants as version
 use Rattle.wire_base.specs.declared.frame.Origin.TheVariants as origin
-use Rattle.frame_text.specs.Codec.{is_packed}
-use Rattle.frame_text.specs.Frames.{fits, fits_code, fits_id, fits_origin, fits_length, is_empty}
+use Rattle.frame_text.specs.Frames.{fits, fits_id, fits_origin, is_empty}
 use Rattle.mux_items.specs.declared.channel.ChannelKey.{ChannelKey}
 use Rattle.mux_items.specs.declared.party.Party.{Party}
-use Rattle.mux_items.specs.Bodies.{FrameBody, Offer, OfferAccepted, Content, ContentWritingCompleted, ChannelTerminated, ContentProcessed, ChannelFrame, frame_on, frame_of, flip, taken_frame, origin_of, code_of, payload_of, is_own, same_key, is_one}
-use Rattle.mux_items.specs.Items.{Item, Hello, DidOffer, DidAccept, DidWrite, DidRead, DidComplete, DidTerminate, Got, Rejected, End, is_running}
+use Rattle.mux_items.specs.Bodies.{FrameBody, Offer, OfferAccepted, Content, ContentWritingCompleted, ChannelTerminated, ContentProcessed, ChannelFrame, frame_on, frame_of, flip, other_key, taken_frame, origin_of, has_parity, is_own, same_key, is_one, is_three}
+use Rattle.mux_items.specs.Items.{Item, Hello, DidOffer, DidAccept, DidWrite, DidRead, DidComplete, DidTerminate, Got, Rejected, End, is_running, greeting, party_of}
 use Rattle.mux_items.specs.Kept.{keys, is_known}
 use Rattle.mux_items.specs.Lists.{unread, is_live}
 use Rattle.mux_items.specs.Due.{pieces_in, piece_size, content_frames, newly_emitted, completes, terminates, due_on, written_window, acknowledgement, due, sent}
+use Rattle.mux_items.specs.Parties.{party_by}
+use Rattle.mux_items.specs.Refusals.{is_greeted, is_ready}
 use Rattle.mux_items.proofs.Keys.{same_key_true}
+use Rattle.mux_run.specs.Run.{Ways, turned}
 use Rattle.mux_end.proofs.Fits.{fits_offer, fits_accepted, fits_content, fits_processed}
-use Rattle.duo_world.specs.Sayable.{IsSayableKey, IsSayable, AreSayable}
+use Rattle.duo_world.specs.Sayable.{IsSayableKey, IsSayableParty, IsSayable, AreSayable}
+use Rattle.duo_world.specs.Holding.{HaveNonces}
+use Rattle.duo_world.proofs.Sides.{other_parity}
 
--- each of these frames has a spelling
-abbrev pub Fit : Version → List ChannelFrame → Type 0
-Fit v [] = Unit {0}
-Fit v (f ∷ fs) = (fits v (frame_of v f) ≡ true) × Fit v fs
+-- a frame of a side has a spelling, and its channel is told by its id
+pub record IsSaid (w : Ways) (f : ChannelFrame) : Type 0 where
+  pub fits : fits w.version (frame_of w.version f) ≡ true
+  pub key : IsSayableKey w f.key
 
-pub fit-append : (v : Version) (fs gs : List ChannelFrame) → Fit v fs → Fit v gs → Fit v (fs ++ gs)
-fit-append v [] gs a b = b
-fit-append v (f ∷ fs) gs a b = (a.0, fit-append v fs gs a.1 b)
+abbrev pub AreSaid : Ways → List ChannelFrame → Type 0
+AreSaid w [] = Unit {0}
+AreSaid w (f ∷ fs) = IsSaid w f × AreSaid w fs
 
-pub fit-back : (v : Version) (fs gs : List ChannelFrame) → Fit v (fs ++ gs) → Fit v gs
-fit-back v [] gs a = a
-fit-back v (f ∷ fs) gs a = fit-back v fs gs a.1
+pub said-append : (w : Ways) (fs gs : List ChannelFrame) → AreSaid w fs → AreSaid w gs → AreSaid w (fs ++ gs)
+said-append w [] gs a b = b
+said-append w (f ∷ fs) gs a b = (a.0, said-append w fs gs a.1 b)
 
--- bodies
+pub said-back : (w : Ways) (fs gs : List ChannelFrame) → AreSaid w (fs ++ gs) → AreSaid w gs
+said-back w [] gs a = a
+said-back w (f ∷ fs) gs a = said-back w fs gs a.1
 
-id_fits : (v : Version) (key : ChannelKey) → is_packed v ≡ true → IsSayableKey key → fits_id v key.id ≡ true
-id_fits version.One key p s = absurd cc
-id_fits version.Two key p s = rw (lt-ltb 0 key.id s.above, lt-ltb key.id 0x8000000000000000 s.below) refl
-id_fits version.Three key p s = rw (lt-ltb 0 key.id s.above, lt-ltb key.id 0x8000000000000000 s.below) refl
+-- frames on a channel
+
+two_hold : (a b : Bool) → a ≡ true → b ≡ true → (true && a && b && true) ≡ true
+two_hold a b p q = cc
 
 side_fits : (own : Bool) → fits_origin version.Three (if own then origin.Sender else origin.Receiver) ≡ true
 side_fits true = refl
 side_fits false = refl
 
-origin_fits : (v : Version) (key : ChannelKey) → is_packed v ≡ true → fits_origin v (origin_of v key) ≡ true
-origin_fits version.One key p = absurd cc
-origin_fits version.Two key p = refl
-origin_fits version.Three key p = side_fits key.own
+completion_fits : (v : Version) (c : ChannelKey) → fits_id v c.id ≡ true → fits v (frame_of v (frame_on c ContentWritingCompleted)) ≡ true
+completion_fits version.One c id = two_hold _ _ id refl
+completion_fits version.Two c id = two_hold _ _ id refl
+completion_fits version.Three c id = two_hold _ _ id (side_fits c.own)
 
-three_hold : (a b : Bool) → a ≡ true → b ≡ true → (true && a && b && true) ≡ true
-three_hold a b p q = cc
+termination_fits : (v : Version) (c : ChannelKey) → fits_id v c.id ≡ true → fits v (frame_of v (frame_on c ChannelTerminated)) ≡ true
+termination_fits version.One c id = two_hold _ _ id refl
+termination_fits version.Two c id = two_hold _ _ id refl
+termination_fits version.Three c id = two_hold _ _ id (side_fits c.own)
 
-completion_fits : (v : Version) (c : ChannelKey) → is_packed v ≡ true → IsSayableKey c → fits v (frame_of v (frame_on c ContentWritingCompleted)) ≡ true
-completion_fits version.One c p s = absurd cc
-completion_fits version.Two c p s = three_hold _ _ (id_fits version.Two c p s) (origin_fits version.Two c p)
-completion_fits version.Three c p s = three_hold _ _ (id_fits version.Three c p s) (origin_fits version.Three c p)
-
-termination_fits : (v : Version) (c : ChannelKey) → is_packed v ≡ true → IsSayableKey c → fits v (frame_of v (frame_on c ChannelTerminated)) ≡ true
-termination_fits version.One c p s = absurd cc
-termination_fits version.Two c p s = three_hold _ _ (id_fits version.Two c p s) (origin_fits version.Two c p)
-termination_fits version.Three c p s = three_hold _ _ (id_fits version.Three c p s) (origin_fits version.Three c p)
-
-pieces_fit : (v : Version) (c : ChannelKey) (turns : ℕ) (bytes : List ℕ) → is_packed v ≡ true → IsSayableKey c → Fit v (map (λ piece. frame_on c (Content piece)) (pieces_in turns bytes))
-pieces_fit v c zero bytes p s = tt
-pieces_fit v c (suc turns) bytes p s = elim (cases_Bool (is_empty bytes)) [
+pieces_said : (w : Ways) (c : ChannelKey) (turns : ℕ) (bytes : List ℕ) → IsSayableKey w c → AreSaid w (map (λ piece. frame_on c (Content piece)) (pieces_in turns bytes))
+pieces_said w c zero bytes s = tt
+pieces_said w c (suc turns) bytes s = elim (cases_Bool (is_empty bytes)) [
   | inl e ↦ rw e tt
-  | inr e ↦ rw e (fits_content v c (take piece_size bytes) p s.above s.below (omega (arith, length-take piece_size bytes)), pieces_fit v c turns (drop piece_size bytes) p s)
+  | inr e ↦ rw e (
+    record { fits = fits_content w.version c (take piece_size bytes) s.fits (omega (arith, length-take piece_size bytes)); key = s },
+    pieces_said w c turns (drop piece_size bytes) s,
+  )
 ]
 
-if_fit : (v : Version) (b : Bool) (f : ChannelFrame) → fits v (frame_of v f) ≡ true → Fit v (if b then f ∷ [] else [])
-if_fit v true f e = (e, tt)
-if_fit v false f e = tt
+if_said : (w : Ways) (b : Bool) (f : ChannelFrame) → IsSaid w f → AreSaid w (if b then f ∷ [] else [])
+if_said w true f s = (s, tt)
+if_said w false f s = tt
 
-due_on_fits : (v : Version) (c : ChannelKey) (first : List ChannelFrame) (item : Item) (items : List Item) → is_packed v ≡ true → IsSayableKey c → Fit v first → Fit v (due_on v c first item items)
-due_on_fits v c first item items p s f =
+due_on_said : (w : Ways) (c : ChannelKey) (first : List ChannelFrame) (item : Item) (items : List Item) → IsSayableKey w c → AreSaid w first → AreSaid w (due_on w.version c first item items)
+due_on_said w c first item items s f =
+    let v = w.version in
     let bytes = newly_emitted v c item items in
     let last = if terminates v c item items then frame_on c ChannelTerminated ∷ [] else [] in
     let third = if completes v c item items then frame_on c ContentWritingCompleted ∷ [] else [] in
-    fit-append v (first ++ content_frames c bytes ++ third) last
-    (fit-append v (first ++ content_frames c bytes) third
-    (fit-append v first (content_frames c bytes) f (pieces_fit v c (length bytes) bytes p s))
-    (if_fit v (completes v c item items) (frame_on c ContentWritingCompleted) (completion_fits v c p s)))
-    (if_fit v (terminates v c item items) (frame_on c ChannelTerminated) (termination_fits v c p s))
+    said-append w (first ++ content_frames c bytes ++ third) last
+    (said-append w (first ++ content_frames c bytes) third
+    (said-append w first (content_frames c bytes) f (pieces_said w c (length bytes) bytes s))
+    (if_said w (completes v c item items) (frame_on c ContentWritingCompleted) (record { fits = completion_fits v c s.fits; key = s })))
+    (if_said w (terminates v c item items) (frame_on c ChannelTerminated) (record { fits = termination_fits v c s.fits; key = s }))
 
-pub packed_window : (v : Version) (size : ℕ) → is_packed v ≡ true → written_window v size ≡ Some size
-packed_window version.One size p = absurd cc
-packed_window version.Two size p = refl
-packed_window version.Three size p = refl
+if_none_said : (w : Ways) (b : Bool) (fs : List ChannelFrame) → (b ≡ false → AreSaid w fs) → AreSaid w (if b then [] else fs)
+if_none_said w true fs s = tt
+if_none_said w false fs s = s refl
 
-offer_fits : (v : Version) (c : ChannelKey) (name : List ℕ) (size : ℕ) → is_packed v ≡ true → IsSayable (DidOffer c name size) → Fit v (frame_on c (Offer name (written_window v size)) ∷ [])
-offer_fits v c name size p s = rw (packed_window v size p) (fits_offer v c name size p s.key_is.above s.key_is.below s.name_is.utf8 s.name_is.short s.size_is, tt)
+acknowledgement_said : (w : Ways) (c : ChannelKey) (count : ℕ) (items : List Item) → IsSayableKey w c → count < 0x8000000000000000 → AreSaid w (acknowledgement w.version c count items)
+acknowledgement_said w c count items s small =
+    if_none_said w (is_one w.version) _ (λ two. if_none_said w (count == 0) _ (λ some.
+    if_said w (is_running items && is_live w.version c items) (frame_on c (ContentProcessed count)) (record { fits = fits_processed w.version c count s.fits two small; key = s })))
 
-accept_fits : (v : Version) (c : ChannelKey) (size : ℕ) → is_packed v ≡ true → IsSayable (DidAccept c size) → Fit v (frame_on c (OfferAccepted (written_window v size)) ∷ [])
-accept_fits v c size p s = rw (packed_window v size p) (fits_accepted v c size p s.key_is.above s.key_is.below s.count_is, tt)
-
-if_none_fit : (v : Version) (b : Bool) (fs : List ChannelFrame) → Fit v fs → Fit v (if b then [] else fs)
-if_none_fit v true fs f = tt
-if_none_fit v false fs f = f
-
-acknowledgement_fits : (v : Version) (c : ChannelKey) (count : ℕ) (items : List Item) → is_packed v ≡ true → IsSayableKey c → count < 0x8000000000000000 → Fit v (acknowledgement v c count items)
-acknowledgement_fits v c count items p s small =
-    if_none_fit v (is_one v) _
-    (if_none_fit v (count == 0) _
-    (if_fit v (is_running items && is_live v c items) (frame_on c (ContentProcessed count)) (fits_processed v c count p s.above s.below small)))
-
-due_fits : (v : Version) (item : Item) (items : List Item) → is_packed v ≡ true → IsSayable item → Fit v (due v item items)
-due_fits v (Hello party) items p s = tt
-due_fits v (DidOffer c name size) items p s = due_on_fits v c (frame_on c (Offer name (written_window v size)) ∷ []) (DidOffer c name size) items p s.key_is (offer_fits v c name size p s)
-due_fits v (DidAccept c size) items p s = due_on_fits v c (frame_on c (OfferAccepted (written_window v size)) ∷ []) (DidAccept c size) items p s.key_is (accept_fits v c size p s)
-due_fits v (DidWrite c bytes) items p s = due_on_fits v c [] (DidWrite c bytes) items p s tt
-due_fits v (DidRead c max) items p s = acknowledgement_fits v c (min max (length (unread v c items))) items p s.key_is (omega (arith, s.count_is))
-due_fits v (DidComplete c) items p s = due_on_fits v c [] (DidComplete c) items p s tt
-due_fits v (DidTerminate c) items p s = due_on_fits v c [] (DidTerminate c) items p s tt
-due_fits v (Got place c body) items p s = due_on_fits v c [] (Got place c body) items p s tt
-due_fits v (Rejected place c body) items p s = (termination_fits v c p s, tt)
-due_fits v (End cause) items p s = tt
+due_said : (w : Ways) (item : Item) (items : List Item) → IsSayable w item → AreSaid w (due w.version item items)
+due_said w (Hello party) items s = tt
+due_said w (DidOffer c name size) items s =
+    due_on_said w c (frame_on c (Offer name (written_window w.version size)) ∷ []) (DidOffer c name size) items s.key_is
+    (record { fits = fits_offer w.version c name size s.key_is.fits s.name_is.utf8 s.name_is.short s.size_is; key = s.key_is }, tt)
+due_said w (DidAccept c size) items s =
+    due_on_said w c (frame_on c (OfferAccepted (written_window w.version size)) ∷ []) (DidAccept c size) items s.key_is
+    (record { fits = fits_accepted w.version c size s.key_is.fits s.count_is; key = s.key_is }, tt)
+due_said w (DidWrite c bytes) items s = due_on_said w c [] (DidWrite c bytes) items s tt
+due_said w (DidRead c max) items s = acknowledgement_said w c (min max (length (unread w.version c items))) items s.key_is (omega (arith, s.count_is))
+due_said w (DidComplete c) items s = due_on_said w c [] (DidComplete c) items s tt
+due_said w (DidTerminate c) items s = due_on_said w c [] (DidTerminate c) items s tt
+due_said w (Got place c body) items s = due_on_said w c [] (Got place c body) items s tt
+due_said w (Rejected place c body) items s = (record { fits = termination_fits w.version c s.fits; key = s }, tt)
+due_said w (End cause) items s = tt
 
 -- each frame that was sent has a spelling
-pub sent_fits : (v : Version) (items : List Item) → is_packed v ≡ true → AreSayable items → Fit v (sent v items)
-sent_fits v [] p s = tt
-sent_fits v (item ∷ items) p s = fit-append v (sent v items) (due v item items) (sent_fits v items p s.1) (due_fits v item items p s.0)
+pub sent_said : (w : Ways) (items : List Item) → AreSayable w items → AreSaid w (sent w.version items)
+sent_said w [] s = tt
+sent_said w (item ∷ items) s = said-append w (sent w.version items) (due w.version item items) (sent_said w items s.1) (due_said w item items s.0)
 
-in_range : (key : ChannelKey) → (nat_lt 0 key.id && nat_lt key.id 0x8000000000000000) ≡ true → IsSayableKey key
-in_range key e =
-    let both = and_parts (nat_lt 0 key.id) (nat_lt key.id 0x8000000000000000) e in
-    record { above = ltb-true 0 key.id both.0; below = ltb-true key.id 0x8000000000000000 both.1 }
+-- the handshake that was applied
 
-id_said : (v : Version) (key : ChannelKey) → is_packed v ≡ true → fits_id v key.id ≡ true → IsSayableKey key
-id_said version.One key p e = absurd cc
-id_said version.Two key p e = in_range key e
-id_said version.Three key p e = in_range key e
+told : (w : Ways) (items : List Item) → AreSayable w items → is_greeted (greeting items) ≡ true → IsSayableParty w (party_of items)
+told w [] s e = absurd cc
+told w (Hello party ∷ items) s e = s.0
+told w (DidOffer key name size ∷ items) s e = told w items s.1 e
+told w (DidAccept key size ∷ items) s e = told w items s.1 e
+told w (DidWrite key bytes ∷ items) s e = told w items s.1 e
+told w (DidRead key max ∷ items) s e = told w items s.1 e
+told w (DidComplete key ∷ items) s e = told w items s.1 e
+told w (DidTerminate key ∷ items) s e = told w items s.1 e
+told w (Got place key body ∷ items) s e = told w items s.1 e
+told w (Rejected place key body ∷ items) s e = told w items s.1 e
+told w (End cause ∷ items) s e = told w items s.1 e
 
--- the id of a frame that has a spelling
-pub fit_key : (v : Version) (f : ChannelFrame) → is_packed v ≡ true → fits v (frame_of v f) ≡ true → IsSayableKey f.key
-fit_key v f p e =
-    let front = and_parts (fits_code v (code_of f.body) (payload_of f.body) && fits_id v f.key.id && fits_origin v (origin_of v f.key)) (fits_length v (payload_of f.body)) e in
-    let middle = and_parts (fits_code v (code_of f.body) (payload_of f.body) && fits_id v f.key.id) (fits_origin v (origin_of v f.key)) front.0 in
-    id_said v f.key p (and_parts (fits_code v (code_of f.body) (payload_of f.body)) (fits_id v f.key.id) middle.0).1
+-- an end of version 1 or 2 that is ready has its party by the nonces
+pub ready_party : (w : Ways) (items : List Item) → AreSayable w items → is_ready w.version items ≡ true → is_three w.version ≡ false → IsSayableParty w (party_of items)
+ready_party w items s ready two = told w items s (ap (λ b. b || is_greeted (greeting items)) (sym two) ∙ ready)
 
--- a frame of version 3 is taken for what it is at the other end
+-- a channel of one side is the other's too
+
+not_not : (b : Bool) → not (not b) ≡ b
+not_not true = refl
+not_not false = refl
+
+turned_side : (w : Ways) (c : ChannelKey) → HaveNonces w → bytes_eq w.own w.peer ≡ false → IsSayableKey (turned w) c → is_three w.version ≡ false → not c.own ≡ has_parity (party_by w.own w.peer) c.id
+turned_side w c n differ s two =
+    ap not (s.side two) ∙ sym (other_parity w.own w.peer c.id (n.own ∙ sym n.peer) differ)
+
+pub turned_key : (w : Ways) (c : ChannelKey) → HaveNonces w → (is_three w.version ≡ false → bytes_eq w.own w.peer ≡ false) → IsSayableKey (turned w) c → IsSayableKey w (other_key c)
+turned_key w c n differ s = record { fits = s.fits; side = λ two. turned_side w c n (differ two) s two }
+
+-- a frame is taken for what it is at the other end
 
 taken_own : (party : Party) (own : Bool) (id : ℕ) → is_own party (if own then origin.Sender else origin.Receiver) id ≡ not own
 taken_own party true id = refl
 taken_own party false id = refl
 
-taken_three : (party : Party) (f : ChannelFrame) (body : FrameBody) → f.body ≡ body → taken_frame party (frame_of version.Three (frame_on f.key body)) ≡ flip (frame_on f.key body)
-taken_three party f (Offer name window) e = ap (λ own. record { key = record { id = f.key.id; own = own }; body = Offer name window }) (taken_own party f.key.own f.key.id)
-taken_three party f (OfferAccepted window) e = ap (λ own. record { key = record { id = f.key.id; own = own }; body = OfferAccepted window }) (taken_own party f.key.own f.key.id)
-taken_three party f (Content bytes) e = ap (λ own. record { key = record { id = f.key.id; own = own }; body = Content bytes }) (taken_own party f.key.own f.key.id)
-taken_three party f ContentWritingCompleted e = ap (λ own. record { key = record { id = f.key.id; own = own }; body = ContentWritingCompleted }) (taken_own party f.key.own f.key.id)
-taken_three party f ChannelTerminated e = ap (λ own. record { key = record { id = f.key.id; own = own }; body = ChannelTerminated }) (taken_own party f.key.own f.key.id)
-taken_three party f (ContentProcessed count) e = ap (λ own. record { key = record { id = f.key.id; own = own }; body = ContentProcessed count }) (taken_own party f.key.own f.key.id)
+taken_side : (v : Version) (party : Party) (c : ChannelKey) → (is_three v ≡ false → not c.own ≡ has_parity party c.id) → is_own party (origin_of v c) c.id ≡ not c.own
+taken_side version.One party c h = sym (h refl)
+taken_side version.Two party c h = sym (h refl)
+taken_side version.Three party c h = taken_own party c.own c.id
 
-pub taken_flip : (v : Version) (party : Party) (f : ChannelFrame) → v ≡ version.Three → taken_frame party (frame_of v f) ≡ flip f
-taken_flip v party f e = ap (λ v. taken_frame party (frame_of v f)) e ∙ taken_three party f f.body refl
+taken_body : (v : Version) (party : Party) (c : ChannelKey) (body : FrameBody) → is_own party (origin_of v c) c.id ≡ not c.own → taken_frame party (frame_of v (frame_on c body)) ≡ flip (frame_on c body)
+taken_body v party c (Offer name window) e = ap (λ own. record { key = record { id = c.id; own = own }; body = Offer name window }) e
+taken_body v party c (OfferAccepted window) e = ap (λ own. record { key = record { id = c.id; own = own }; body = OfferAccepted window }) e
+taken_body v party c (Content bytes) e = ap (λ own. record { key = record { id = c.id; own = own }; body = Content bytes }) e
+taken_body v party c ContentWritingCompleted e = ap (λ own. record { key = record { id = c.id; own = own }; body = ContentWritingCompleted }) e
+taken_body v party c ChannelTerminated e = ap (λ own. record { key = record { id = c.id; own = own }; body = ChannelTerminated }) e
+taken_body v party c (ContentProcessed count) e = ap (λ own. record { key = record { id = c.id; own = own }; body = ContentProcessed count }) e
+
+pub taken_flip : (w : Ways) (party : Party) (f : ChannelFrame) → HaveNonces w → (is_three w.version ≡ false → IsSayableParty w party) → IsSayableKey (turned w) f.key → taken_frame party (frame_of w.version f) ≡ flip f
+taken_flip w party f n p s =
+    taken_body w.version party f.key f.body
+    (taken_side w.version party f.key (λ two. turned_side w f.key n (p two).differ s two ∙ ap (λ party. has_parity party f.key.id) (sym (p two).party_is)))
 
 -- a known channel is one that some item names
-abbrev AreSayableKeys : List ChannelKey → Type 0
-AreSayableKeys [] = Unit {0}
-AreSayableKeys (c ∷ cs) = IsSayableKey c × AreSayableKeys cs
+abbrev AreSayableKeys : Ways → List ChannelKey → Type 0
+AreSayableKeys w [] = Unit {0}
+AreSayableKeys w (c ∷ cs) = IsSayableKey w c × AreSayableKeys w cs
 
-keys_sayable : (items : List Item) → AreSayable items → AreSayableKeys (keys items)
-keys_sayable [] s = tt
-keys_sayable (Hello party ∷ items) s = keys_sayable items s.1
-keys_sayable (DidOffer key name size ∷ items) s = (s.0.key_is, keys_sayable items s.1)
-keys_sayable (DidAccept key size ∷ items) s = keys_sayable items s.1
-keys_sayable (DidWrite key bytes ∷ items) s = keys_sayable items s.1
-keys_sayable (DidRead key max ∷ items) s = keys_sayable items s.1
-keys_sayable (DidComplete key ∷ items) s = keys_sayable items s.1
-keys_sayable (DidTerminate key ∷ items) s = keys_sayable items s.1
-keys_sayable (Got place key (Offer name size) ∷ items) s = (s.0, keys_sayable items s.1)
-keys_sayable (Got place key (OfferAccepted size) ∷ items) s = keys_sayable items s.1
-keys_sayable (Got place key (Content bytes) ∷ items) s = keys_sayable items s.1
-keys_sayable (Got place key ContentWritingCompleted ∷ items) s = keys_sayable items s.1
-keys_sayable (Got place key ChannelTerminated ∷ items) s = keys_sayable items s.1
-keys_sayable (Got place key (ContentProcessed count) ∷ items) s = keys_sayable items s.1
-keys_sayable (Rejected place key body ∷ items) s = keys_sayable items s.1
-keys_sayable (End cause ∷ items) s = keys_sayable items s.1
+keys_sayable : (w : Ways) (items : List Item) → AreSayable w items → AreSayableKeys w (keys items)
+keys_sayable w [] s = tt
+keys_sayable w (Hello party ∷ items) s = keys_sayable w items s.1
+keys_sayable w (DidOffer key name size ∷ items) s = (s.0.key_is, keys_sayable w items s.1)
+keys_sayable w (DidAccept key size ∷ items) s = keys_sayable w items s.1
+keys_sayable w (DidWrite key bytes ∷ items) s = keys_sayable w items s.1
+keys_sayable w (DidRead key max ∷ items) s = keys_sayable w items s.1
+keys_sayable w (DidComplete key ∷ items) s = keys_sayable w items s.1
+keys_sayable w (DidTerminate key ∷ items) s = keys_sayable w items s.1
+keys_sayable w (Got place key (Offer name size) ∷ items) s = (s.0, keys_sayable w items s.1)
+keys_sayable w (Got place key (OfferAccepted size) ∷ items) s = keys_sayable w items s.1
+keys_sayable w (Got place key (Content bytes) ∷ items) s = keys_sayable w items s.1
+keys_sayable w (Got place key ContentWritingCompleted ∷ items) s = keys_sayable w items s.1
+keys_sayable w (Got place key ChannelTerminated ∷ items) s = keys_sayable w items s.1
+keys_sayable w (Got place key (ContentProcessed count) ∷ items) s = keys_sayable w items s.1
+keys_sayable w (Rejected place key body ∷ items) s = keys_sayable w items s.1
+keys_sayable w (End cause ∷ items) s = keys_sayable w items s.1
 
-any_sayable : (c : ChannelKey) (cs : List ChannelKey) → AreSayableKeys cs → list_any (same_key c) cs ≡ true → IsSayableKey c
-any_sayable c [] s e = absurd cc
-any_sayable c (d ∷ ds) s e = elim (cases_Bool (same_key c d)) [
-  | inl h ↦ subst IsSayableKey (sym (same_key_true c d h)) s.0
-  | inr h ↦ any_sayable c ds s.1 (sym (ap (λ b. b || list_any (same_key c) ds) h) ∙ e)
+any_sayable : (w : Ways) (c : ChannelKey) (cs : List ChannelKey) → AreSayableKeys w cs → list_any (same_key c) cs ≡ true → IsSayableKey w c
+any_sayable w c [] s e = absurd cc
+any_sayable w c (d ∷ ds) s e = elim (cases_Bool (same_key c d)) [
+  | inl h ↦ subst (IsSayableKey w) (sym (same_key_true c d h)) s.0
+  | inr h ↦ any_sayable w c ds s.1 (sym (ap (λ b. b || list_any (same_key c) ds) h) ∙ e)
 ]
 
-pub known_sayable : (c : ChannelKey) (items : List Item) → AreSayable items → is_known c items ≡ true → IsSayableKey c
-known_sayable c items s e = any_sayable c (keys items) (keys_sayable items s) e
+pub known_sayable : (w : Ways) (c : ChannelKey) (items : List Item) → AreSayable w items → is_known c items ≡ true → IsSayableKey w c
+known_sayable w c items s e = any_sayable w c (keys items) (keys_sayable w items s) e

@@ -28,7 +28,7 @@ use Rattle.mux_run.proofs.Safety.{run_safe}
 use Rattle.mux_end.specs.Lane.{lane_of_keys}
 use Rattle.mux_end.specs.Stands.{EndValue}
 use Rattle.duo_world.specs.Sayable.{AreSayable}
-use Rattle.duo_world.specs.Holding.{HalfStands, WorldStands, DuoState, StandsForRun, IsHeld}
+use Rattle.duo_world.specs.Holding.{HalfStands, HaveNonces, WorldStands, DuoState, StandsForRun, IsHeld}
 use Rattle.duo_world.specs.Stepping.{IsReadyFor, AreStanding, StepAnswersAt, IsReadyAt, WorldAnswers, newly_out, Emits, EmitsOn, IsStepped, Steps}
 use Rattle.duo_world.proofs.Feeding.{in_flight_is}
 
@@ -63,15 +63,17 @@ answers_b terms s a a' b b' w result e h r =
 
 held_ready : (d : DuoState) (s : Step) (side : Side) → IsHeld d → IsPlainStepOn d.terms side s (run d.terms d.steps) → IsReadyAt d.terms side s d.a d.b (run d.terms d.steps)
 held_ready d s A h p = record {
-  own_stands = record { three = h.three; stands = h.stands.at_a; sayable = h.sayable_a };
-  peer_stands = record { three = h.three; stands = h.stands.at_b; sayable = h.sayable_b };
+  nonces = h.nonces;
+  own_stands = record { stands = h.stands.at_a; sayable = h.sayable_a };
+  peer_stands = record { stands = h.stands.at_b; sayable = h.sayable_b };
   plain = p;
   joined = run_joined d.terms d.steps;
   fed = (run_fed d.terms d.steps).into;
 }
 held_ready d s B h p = record {
-  own_stands = record { three = h.three; stands = h.stands.at_b; sayable = h.sayable_b };
-  peer_stands = record { three = h.three; stands = h.stands.at_a; sayable = h.sayable_a };
+  nonces = record { own = h.nonces.peer; peer = h.nonces.own };
+  own_stands = record { stands = h.stands.at_b; sayable = h.sayable_b };
+  peer_stands = record { stands = h.stands.at_a; sayable = h.sayable_a };
   plain = p;
   joined = turned_joined (ways_a d.terms) (run d.terms d.steps).a (run d.terms d.steps).b (run_joined d.terms d.steps);
   fed = (run_fed d.terms d.steps).back;
@@ -165,11 +167,11 @@ stepped d d' s reply h built terms steps works answers =
         emits = subst (λ w'. EmitsOn (side_of s) d.terms w w' d.a d'.a d.b d'.b) (sym now) (emits_on d.terms s (side_of s) d.a d'.a d.b d'.b w h.stands there);
       },
       record {
-        three = ap (λ t. t.version) terms ∙ h.three;
+        nonces = subst (λ t. HaveNonces (ways_a t)) (sym terms) h.nonces;
         built = subst AreBuilt (sym steps) built;
         stands = stands;
-        sayable_a = subst (λ w. AreSayable w.a.items) (sym now) both.own_stands.sayable;
-        sayable_b = subst (λ w. AreSayable w.b.items) (sym now) both.peer_stands.sayable;
+        sayable_a = subst (λ t. AreSayable (ways_a t) (run d'.terms d'.steps).a.items) (sym terms) (subst (λ w. AreSayable (ways_a d.terms) w.a.items) (sym now) both.own_stands.sayable);
+        sayable_b = subst (λ t. AreSayable (ways_b t) (run d'.terms d'.steps).b.items) (sym terms) (subst (λ w. AreSayable (ways_b d.terms) w.b.items) (sym now) both.peer_stands.sayable);
       },
     )
 

@@ -1,7 +1,5 @@
 -- When two ends stand for the two halves of a run.
-use Rattle.std.specs.Prelude.{◌≡◌, ◌≤◌, ℕ, List, [], ◌++◌, length, take, drop, slice_index_or, Bool, false, if◌then◌else◌}
-use Rattle.wire_base.specs.declared.frame.Version.{Version}
-use Rattle.wire_base.specs.declared.frame.Version.TheVariants as version
+use Rattle.std.specs.Prelude.{◌≡◌, ◌≤◌, ℕ, List, ◌++◌, length, take, drop, Bool, false, if◌then◌else◌}
 use Rattle.mux_items.specs.Due.{got}
 use Rattle.mux_items.specs.Refusals.{is_ready}
 use Rattle.mux_end.specs.Stands.{EndValue, MuxStands}
@@ -44,13 +42,18 @@ pub record DuoState : Type 0 where
 abbrev pub StandsForRun : DuoState → Type 0
 StandsForRun d = WorldStands d.terms d.a d.b (run d.terms d.steps)
 
--- a Duo of version 3 that didn't fail: its steps are built, its ends stand for their run, and frames can say the items of both
+-- a nonce is of 16 bytes
+pub record HaveNonces (w : Ways) : Type 0 where
+  pub own : length w.own ≡ 16
+  pub peer : length w.peer ≡ 16
+
+-- a Duo that didn't fail: its steps are built, its ends stand for their run, and frames can say the items of both
 pub record IsHeld (d : DuoState) : Type 0 where
-  pub three : d.terms.version ≡ version.Three
+  pub nonces : HaveNonces (ways_a d.terms)
   pub built : AreBuilt d.steps
   pub stands : StandsForRun d
-  pub sayable_a : AreSayable (run d.terms d.steps).a.items
-  pub sayable_b : AreSayable (run d.terms d.steps).b.items
+  pub sayable_a : AreSayable (ways_a d.terms) (run d.terms d.steps).a.items
+  pub sayable_b : AreSayable (ways_b d.terms) (run d.terms d.steps).b.items
 
 -- of a Duo whose memory ran out in a step nothing is promised
 abbrev pub DuoHolds : DuoState → Type 0
@@ -69,7 +72,3 @@ output_to B d = d.a.output
 abbrev pub flight_to : Side → Terms → World → List ℕ
 flight_to A terms w = in_flight (ways_a terms) w.a w.b
 flight_to B terms w = in_flight (ways_b terms) w.b w.a
-
--- the nonces are those of A and of B
-abbrev pub terms_of : Version → (nonces : List (List ℕ)) → Terms
-terms_of v nonces = record { version = v; nonce_a = slice_index_or nonces 0 []; nonce_b = slice_index_or nonces 1 [] }

@@ -1,13 +1,18 @@
--- What frames can say: ids, names and numbers in their ranges.
-use Rattle.std.specs.Prelude.{◌≡◌, ◌<◌, ◌≤◌, ℕ, List, [], ◌∷◌, length, true}
-use Rattle.std.specs.Str.{is_utf8}
+-- What frames can say: ids, names and numbers in their ranges, and whose a channel is.
+use Rattle.std.specs.Prelude.{◌≡◌, ◌<◌, ◌≤◌, ℕ, List, [], ◌∷◌, length, true, false}
+use Rattle.std.specs.Str.{is_utf8, bytes_eq}
+use Rattle.frame_text.specs.Frames.{fits_id}
 use Rattle.mux_items.specs.declared.channel.ChannelKey.{ChannelKey}
+use Rattle.mux_items.specs.declared.party.Party.{Party}
+use Rattle.mux_items.specs.Bodies.{has_parity, is_three}
 use Rattle.mux_items.specs.Items.{Item, Hello, DidOffer, DidAccept, DidWrite, DidRead, DidComplete, DidTerminate, Got, Rejected, End}
+use Rattle.mux_items.specs.Parties.{party_by}
+use Rattle.mux_run.specs.Run.{Ways}
 
--- an id is 1 to 2^63 - 1
-pub record IsSayableKey (key : ChannelKey) : Type 0 where
-  pub above : 0 < key.id
-  pub below : key.id < 0x8000000000000000
+-- an id of the version's range; in versions 1 and 2, which write no channel source, a side's own ids have its party's parity
+pub record IsSayableKey (w : Ways) (key : ChannelKey) : Type 0 where
+  pub fits : fits_id w.version key.id ≡ true
+  pub side : is_three w.version ≡ false → key.own ≡ has_parity (party_by w.own w.peer) key.id
 
 -- a window or a count is 0 to 2^63 - 1
 abbrev pub IsSayableNumber : ℕ → Type 0
@@ -18,28 +23,33 @@ pub record IsSayableName (name : List ℕ) : Type 0 where
   pub utf8 : is_utf8 name ≡ true
   pub short : length name ≤ 1024
 
-pub record IsSayableOffer (key : ChannelKey) (name : List ℕ) (size : ℕ) : Type 0 where
-  pub key_is : IsSayableKey key
+pub record IsSayableOffer (w : Ways) (key : ChannelKey) (name : List ℕ) (size : ℕ) : Type 0 where
+  pub key_is : IsSayableKey w key
   pub name_is : IsSayableName name
   pub size_is : IsSayableNumber size
 
-pub record IsSayableCount (key : ChannelKey) (count : ℕ) : Type 0 where
-  pub key_is : IsSayableKey key
+pub record IsSayableCount (w : Ways) (key : ChannelKey) (count : ℕ) : Type 0 where
+  pub key_is : IsSayableKey w key
   pub count_is : IsSayableNumber count
 
-abbrev pub IsSayable : Item → Type 0
-IsSayable (Hello party) = Unit {0}
-IsSayable (DidOffer key name size) = IsSayableOffer key name size
-IsSayable (DidAccept key size) = IsSayableCount key size
-IsSayable (DidWrite key bytes) = IsSayableKey key
-IsSayable (DidRead key max) = IsSayableCount key max
-IsSayable (DidComplete key) = IsSayableKey key
-IsSayable (DidTerminate key) = IsSayableKey key
-IsSayable (Got place key body) = IsSayableKey key
-IsSayable (Rejected place key body) = IsSayableKey key
-IsSayable (End cause) = Unit {0}
+-- a handshake that was applied tells the party of two nonces that differ
+pub record IsSayableParty (w : Ways) (party : Party) : Type 0 where
+  pub differ : bytes_eq w.own w.peer ≡ false
+  pub party_is : party ≡ party_by w.own w.peer
 
--- the frames of these items have spellings
-abbrev pub AreSayable : List Item → Type 0
-AreSayable [] = Unit {0}
-AreSayable (item ∷ items) = IsSayable item × AreSayable items
+abbrev pub IsSayable : Ways → Item → Type 0
+IsSayable w (Hello party) = IsSayableParty w party
+IsSayable w (DidOffer key name size) = IsSayableOffer w key name size
+IsSayable w (DidAccept key size) = IsSayableCount w key size
+IsSayable w (DidWrite key bytes) = IsSayableKey w key
+IsSayable w (DidRead key max) = IsSayableCount w key max
+IsSayable w (DidComplete key) = IsSayableKey w key
+IsSayable w (DidTerminate key) = IsSayableKey w key
+IsSayable w (Got place key body) = IsSayableKey w key
+IsSayable w (Rejected place key body) = IsSayableKey w key
+IsSayable w (End cause) = Unit {0}
+
+-- the frames of these items of a side have spellings, and tell their channels
+abbrev pub AreSayable : Ways → List Item → Type 0
+AreSayable w [] = Unit {0}
+AreSayable w (item ∷ items) = IsSayable w item × AreSayable w items

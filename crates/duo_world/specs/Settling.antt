@@ -1,26 +1,25 @@
 -- An end that applies what is whole of the bytes that it was given.
 use Rattle.std.specs.Prelude.{◌≡◌, ◌≤◌, ℕ, List, [], length, true}
-use Rattle.wire_base.specs.declared.frame.Version.TheVariants as version
 use Rattle.mux_items.specs.Items.{Item, is_running}
-use Rattle.mux_items.specs.Due.{sent, got}
 use Rattle.mux_run.specs.declared.answers.EndEvent.{EndEvent}
-use Rattle.mux_run.specs.Run.{Half, Ways, whole_frames}
+use Rattle.mux_run.specs.Run.{Half, Ways, turned}
+use Rattle.mux_run.specs.Fed.{LieWithin}
 use Rattle.mux_run.specs.Plain.{IsPlainWay}
 use Rattle.mux_run.specs.Answers.{events_since}
 use Rattle.mux_end.specs.Stands.{EndValue}
 use Rattle.duo_world.specs.Sayable.{AreSayable}
-use Rattle.duo_world.specs.Holding.{HalfStands}
+use Rattle.duo_world.specs.Holding.{HalfStands, HaveNonces}
 
 abbrev pub half : List Item → ℕ → Half
 half items delivered = record { items = items; delivered = delivered }
 
--- an end of version 3 with these items, which was given so many bytes of y, may apply more of them
+-- an end with these items, which was given so many bytes of y, may apply more of them
 pub record IsSettling (w : Ways) (delivered : ℕ) (items : List Item) (y : Half) : Type 0 where
-  pub three : w.version ≡ version.Three
+  pub nonces : HaveNonces w
   pub way : IsPlainWay w.version items y.items []
-  pub within : length (got items) ≤ length (whole_frames w.version delivered (sent w.version y.items))
-  pub sayable : AreSayable items
-  pub sayable_peer : AreSayable y.items
+  pub lie : LieWithin w delivered items y
+  pub sayable : AreSayable w items
+  pub sayable_peer : AreSayable (turned w) y.items
 
 -- an end that runs stands for such items, and these are the events of those that are newer than the oldest so many
 pub record IsOnWay (w : Ways) (delivered : ℕ) (older : ℕ) (own : EndValue) (events : List EndEvent) (items : List Item) (y : Half) : Type 0 where
@@ -33,5 +32,5 @@ pub record IsOnWay (w : Ways) (delivered : ℕ) (older : ℕ) (own : EndValue) (
 -- it has applied what is whole
 pub record IsSettled (w : Ways) (older : ℕ) (own : EndValue) (events : List EndEvent) (x y : Half) : Type 0 where
   pub stands : HalfStands w own x y
-  pub sayable : AreSayable x.items
+  pub sayable : AreSayable w x.items
   pub events_are : events ≡ events_since w.version older x.items

@@ -1,6 +1,5 @@
 -- What a call, a delivery and a step leave of two ends.
 use Rattle.std.specs.Prelude.{◌≡◌, ℕ, ◌-◌, List, [], ◌∷◌, ◌++◌, length, drop, true, false, Result, Ok, Err}
-use Rattle.wire_base.specs.declared.frame.Version.TheVariants as version
 use Rattle.wire_base.specs.declared.fault.CallFault.{CallFault}
 use Rattle.wire_base.specs.declared.fault.CallFault.TheVariants as fault
 use Rattle.wire_base.specs.declared.out_of_memory.OutOfMemory.{OutOfMemory}
@@ -22,17 +21,17 @@ use Rattle.mux_run.specs.Safe.{IsSafeRun}
 use Rattle.mux_run.specs.Fed.{IsFed}
 use Rattle.mux_end.specs.Stands.{EndValue}
 use Rattle.duo_world.specs.Sayable.{AreSayable}
-use Rattle.duo_world.specs.Holding.{HalfStands, DuoState, StandsForRun}
+use Rattle.duo_world.specs.Holding.{HalfStands, HaveNonces, DuoState, StandsForRun}
 use Rattle.duo_world.specs.Settling.{half}
 
--- an end of version 3 stands for the half x, whose items frames can say
+-- an end stands for the half x, whose items frames can say
 pub record IsCallable (w : Ways) (own : EndValue) (x y : Half) : Type 0 where
-  pub three : w.version ≡ version.Three
   pub stands : HalfStands w own x y
-  pub sayable : AreSayable x.items
+  pub sayable : AreSayable w x.items
 
 -- two ends stand for the halves x and y of a run, in which this step comes next at x
 pub record IsReadyFor (w : Ways) (s : Step) (own peer : EndValue) (x y : Half) : Type 0 where
+  pub nonces : HaveNonces w
   pub own_stands : IsCallable w own x y
   pub peer_stands : IsCallable (turned w) peer y x
   pub plain : IsPlainStep w s x y

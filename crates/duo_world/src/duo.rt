@@ -1,9 +1,9 @@
 //! Two joined ends, and the steps that were made with them.
 
-ghost use Rattle.duo_world.specs.Holding.{DuoHolds, StandsForRun, end_of, flight_to, output_to, terms_of};
+ghost use Rattle.duo_world.specs.Holding.{DuoHolds, StandsForRun, end_of, flight_to, output_to};
 ghost use Rattle.duo_world.specs.Stepping.{IsStepped, Steps};
 ghost use Rattle.mux_run.specs.Built.{AreBuilt};
-ghost use Rattle.mux_run.specs.Run.{run};
+ghost use Rattle.mux_run.specs.Run.{run, terms_of};
 ghost use Rattle.mux_run.specs.Safe.{IsSafeRun};
 ghost use Rattle.std.specs.Prelude.{◌≡◌, [], ◌∷◌, ◌++◌, IfOk, OnErr, false, true};
 
@@ -40,7 +40,6 @@ impl Model for Duo {
 impl Duo {
     /// Two ends with their first bytes in flight. The nonces are those of A and of B.
     pub fn start(alloc: Global, version: Version, nonces: [[u8; 16]; 2]) -> Result<Duo, OutOfMemory>
-        requires { version ≡ Version.Three }
         ensures fresh { IfOk result (λ d. (d.steps ≡ []) × (d.failed ≡ false) × (d.terms ≡ terms_of version nonces)) }
         ensures stands { IfOk result StandsForRun }
     {
@@ -95,7 +94,6 @@ impl Duo {
         nonces: [[u8; 16]; 2],
         steps: StepList,
     ) -> Result<Duo, OutOfMemory>
-        requires three { version ≡ Version.Three }
         requires built { AreBuilt steps }
         ensures stored { IfOk result (λ d. (d.steps ≡ steps) × (d.failed ≡ false) × (d.terms ≡ terms_of version nonces)) }
         ensures stands { IfOk result StandsForRun }

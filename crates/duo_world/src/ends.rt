@@ -9,7 +9,6 @@ ghost use Rattle.mux_run.specs.Answers.{answer_at};
 ghost use Rattle.mux_run.specs.Built.{is_built_call, is_built_step, is_offer_call, is_offer_step};
 ghost use Rattle.mux_run.specs.Run.{Half, Terms, Ways, World, settled, side_of};
 ghost use Rattle.mux_run.specs.declared.steps.Side.{Side};
-ghost use Rattle.mux_run.specs.declared.steps.Side.TheVariants.{A};
 ghost use Rattle.std.specs.Prelude.{◌≡◌, ℕ, List, [], OnOk, IfOk, None, true};
 
 use mux_end::{MuxEnd, MuxStep};
@@ -56,7 +55,7 @@ fn refused(fault: CallFault) -> Result<Reply, OutOfMemory>
 
 /// Makes a call at an end.
 fn make_call(alloc: Global, own: &mut MuxEnd, call: &Call) -> Result<Reply, OutOfMemory>
-    requires built { is_built_call A call.now ≡ true }
+    requires built { is_built_call call.now ≡ true }
     requires free { is_offer_call call.now ≡ true → own.old.channel ≡ None }
     ensures { (w : Ways) (x y : Half) → IsCallable w own.old x y → IfOk result (Calls w call.now own.new x y) }
 {
@@ -120,7 +119,7 @@ fn deliver(
 
 /// Makes a call at an end, and lets it apply what is whole.
 fn answer_call(alloc: Global, own: &mut MuxEnd, call: &Call) -> Result<DuoAnswer, OutOfMemory>
-    requires built { is_built_call A call.now ≡ true }
+    requires built { is_built_call call.now ≡ true }
     requires free { is_offer_call call.now ≡ true → own.old.channel ≡ None }
     ensures { (w : Ways) (side : Side) (peer : EndValue) (x y : Half) → IsReadyFor w (Step.Call side call.now) own.old peer x y →
         IfOk result (CallAnswersAt w side call.now own.new x y) }

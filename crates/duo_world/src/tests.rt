@@ -1,7 +1,7 @@
 //! Worked values of two joined ends.
 
 ghost use Rattle.mux_run.specs.Built.{AreBuilt, is_built_step, is_offer_step};
-ghost use Rattle.std.specs.Prelude.{◌≡◌, false, true, IfOk, OnOk};
+ghost use Rattle.std.specs.Prelude.{◌≡◌, [], ◌∷◌, ◌++◌, false, true, IfOk, OnOk};
 
 use crate::Duo;
 use mux_items::{ChannelKey, Phase, Tally};
@@ -12,6 +12,9 @@ use wire_base::{Blob, OutOfMemory, Text, Version};
 
 /// The offer of `a` with window 8.
 const OFFER: &[u8] = b"\x94\x00\x01\x01\xc4\x04\x92\xa1\x61\x08";
+
+/// The same in version 2, where the side with the greater nonce draws odd ids.
+const ODD_OFFER: &[u8] = b"\x93\x00\x01\xc4\x04\x92\xa1\x61\x08";
 
 /// The acknowledgement of two bytes.
 const ACKNOWLEDGEMENT: &[u8] = b"\x94\x05\x01\xff\xc4\x02\x91\x02";
@@ -31,6 +34,29 @@ fn offered(alloc: Global) -> Result<Duo, OutOfMemory>
     match duo.step(Step::Call(Side::A, Call::Offer(name, 8))) {
         DuoAnswer::OutOfMemory => Err(OutOfMemory),
         _ => Ok(duo),
+    }
+}
+
+/// Two ends of version 2 that were given each other's hello, of which A has then offered a channel.
+fn greeted(alloc: Global) -> Result<Duo, OutOfMemory> {
+    let name = Text::from_str(alloc, "a")?;
+    let mut duo = Duo::start(alloc, Version::Two, [[1; 16], [0; 16]])?;
+    stepped(&mut duo, Step::Deliver(Side::A, 100))?;
+    stepped(&mut duo, Step::Deliver(Side::B, 100))?;
+    stepped(&mut duo, Step::Call(Side::A, Call::Offer(name, 8)))?;
+    Ok(duo)
+}
+
+/// Makes a step.
+fn stepped(duo: &mut Duo, step: Step) -> Result<DuoAnswer, OutOfMemory>
+    requires works { duo.old.failed ≡ false }
+    requires built { AreBuilt (duo.old.steps ++ step ∷ []) }
+    ensures works { OnOk result (duo.new.failed ≡ false) }
+    ensures steps { OnOk result (duo.new.steps ≡ duo.old.steps ++ step ∷ []) }
+{
+    match duo.step(step) {
+        DuoAnswer::OutOfMemory => Err(OutOfMemory),
+        answer => Ok(answer),
     }
 }
 
@@ -104,6 +130,14 @@ fn steps_answer_and_emit(rt: HostRuntime) -> Result<(), Fail> {
     let read = made(&mut duo, Step::Call(Side::B, Call::Read(PEERS, 2)))?;
     assert!(rt; gave(&read, b"he"));
     assert_eq!(rt; duo.in_flight(Side::A), ACKNOWLEDGEMENT);
+    Ok(())
+}
+
+#[test]
+fn ends_greet_each_other(rt: HostRuntime) -> Result<(), Fail> {
+    let duo = greeted(rt.alloc())?;
+    assert_eq!(rt; duo.in_flight(Side::A), b"".as_slice());
+    assert_eq!(rt; duo.in_flight(Side::B), ODD_OFFER);
     Ok(())
 }
 

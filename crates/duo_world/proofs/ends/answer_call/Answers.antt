@@ -14,7 +14,7 @@ returns c = λ w side peer x y r.
     elim c.if-running.branch [
       | then-running+in_ok-settle v ↦
           let on = called_on w call side c.args.own.now c.make_call.new.own peer c.new-events.result x y r (sym c.is_running-running.ensures ∙ v.if-running.true) c.new-events.ensures h.1 in
-          let done = called_settled w call side v.settle.new.own reply v.settle.new.events x y r.own_stands.three h.0 (v.in_ok-settle.ensures w x.delivered (length x.items) (called w.version call x.items) y on) in
+          let done = called_settled w call side v.settle.new.own reply v.settle.new.events x y h.0 (v.in_ok-settle.ensures w x.delivered (length x.items) (called w.version call x.items) y on) in
           subst (λ own. CallAnswersAt w side call own x y (duo.Replied reply c.if-running.events)) (sym v.own-is)
           (subst (λ es. CallAnswersAt w side call v.settle.new.own x y (duo.Replied reply es)) (sym v.events-is) done)
       | else-running v ↦

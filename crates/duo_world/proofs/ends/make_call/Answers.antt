@@ -12,7 +12,7 @@ pub returns-in-Ok : goal.returns-in-Ok
 returns-in-Ok c = λ w x y h.
     let made = variant.Offer c.in-Offer.name c.in-Offer.window in
     let done = call_done w made c.args.own.now c.offer.new.self x y (λ key. key ≡ next_key x.items) c.in-Ok.key h
-    (offer_sayable w.version c.in-Offer.name c.in-Offer.window x.items c.as_str-text.ensures.utf8 (omega arith))
+    (offer_sayable w c.in-Offer.name c.in-Offer.window x.items h.sayable c.as_str-text.ensures.utf8 (omega arith))
     (c.in-Ok.ensures.answers x.items (place_of w x y) (rest_of w x y) h.stands.stands) in
     subst (λ k. Calls w k c.offer.new.self x y (reply.Made c.in-Ok.key)) (sym c.in-Offer.is) (ap reply.Made done.0 ∙ sym done.1, done.2)
 
@@ -27,7 +27,7 @@ pub returns-in-Ok-accept : goal.returns-in-Ok-accept
 returns-in-Ok-accept c = λ w x y h.
     let made = variant.Accept c.in-Accept.key c.in-Accept.window in
     let done = call_done w made c.args.own.now c.accept.new.self x y (λ z. Unit {0}) c.in-Ok-accept.field-0 h
-    (accept_sayable w.version c.in-Accept.key c.in-Accept.window x.items h.sayable (omega arith))
+    (accept_sayable w c.in-Accept.key c.in-Accept.window x.items h.sayable (omega arith))
     (c.in-Ok-accept.ensures.answers x.items (place_of w x y) (rest_of w x y) h.stands.stands) in
     subst (λ k. Calls w k c.accept.new.self x y reply.Done) (sym c.in-Accept.is) (sym done.1, done.2)
 
@@ -42,7 +42,7 @@ pub returns-in-Ok-write : goal.returns-in-Ok-write
 returns-in-Ok-write c = λ w x y h.
     let made = variant.Write c.in-Write.key c.as_bytes.result.now in
     let done = call_done w made c.args.own.now c.write.new.self x y (λ z. Unit {0}) c.in-Ok-write.field-0 h
-    (write_sayable w.version c.in-Write.key c.as_bytes.result.now x.items h.sayable)
+    (write_sayable w c.in-Write.key c.as_bytes.result.now x.items h.sayable)
     (c.in-Ok-write.ensures.answers x.items (place_of w x y) (rest_of w x y) h.stands.stands) in
     subst (λ k. Calls w k c.write.new.self x y reply.Done) (sym (c.in-Write.is ∙ ap (variant.Write c.in-Write.key) (sym c.as_bytes.ensures))) (sym done.1, done.2)
 
@@ -59,7 +59,7 @@ returns-in-Ok-read c = λ w x y h.
     let at = place_of w x y in
     let rest = rest_of w x y in
     let done = call_done w made c.args.own.now c.read.new.self x y (λ n. n ≡ min c.in-Read.max (length (unread c.args.own.now.version c.in-Read.key x.items))) c.in-Ok-read.field-0 h
-    (read_sayable w.version c.in-Read.key c.in-Read.max x.items h.sayable (omega arith))
+    (read_sayable w c.in-Read.key c.in-Read.max x.items h.sayable (omega arith))
     (c.in-Ok-read.ensures.answers x.items at rest h.stands.stands) in
     let bytes : c.in_ok-from_bytes-in-Ok-read.field-0 ≡ take c.in-Read.max (unread w.version c.in-Read.key x.items) =
     c.in_ok-from_bytes-in-Ok-read.ensures ∙ (c.as_slice.ensures.value ∙ (c.in-Ok-read.ensures.bytes x.items at rest h.stands.stands

@@ -1,5 +1,6 @@
 use Rattle.std.proofs.Common.{◌≡◌, ◌++◌, false}
-use Rattle.duo_world.specs.Holding.{StandsForRun, terms_of}
+use Rattle.mux_run.specs.Run.{terms_of}
+use Rattle.duo_world.specs.Holding.{StandsForRun}
 use Rattle.duo_world.proofs.duo.Duo.run.Given as goal
 
 abbrev pub invariant-loop-step : goal.invariant-loop-step
