@@ -8,8 +8,11 @@ mod Splits
 mod LineTexts
 mod StepWords
 mod PlainWords
+mod NonceWords
 mod StepLines
 mod Counts
+mod HeadLines
+mod Heads
 mod Scripts
 mod ScriptLaws
 mod AnswersOfRead

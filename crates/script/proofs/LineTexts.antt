@@ -1,8 +1,9 @@
 -- A text and its lines.
-use Rattle.std.proofs.Common.{◌≡◌, ℕ, Bool, true, false, cond, eqb, eqb-true, not, List, [], ◌∷◌, ◌++◌, refl, ap, ◌∙◌, inl, inr}
+use Rattle.std.proofs.Common.{◌≡◌, ℕ, Bool, true, false, cond, eqb, eqb-true, not, List, [], ◌∷◌, ◌++◌, map, append_assoc, refl, sym, ap, ◌∙◌, inl, inr}
 use Rattle.std.specs.List.{list_all, flat_map}
+use Rattle.std.specs.Str.{is_utf8}
 use Rattle.std.proofs.lemmas.Bool.{and_parts}
-use Rattle.script.specs.Spelling.{ended, stands_in_line}
+use Rattle.script.specs.Spelling.{ended, stands_in_line, is_line_text}
 use Rattle.script.specs.Lines.{TextLine, lines_of, onto_line, line_bytes}
 use Rattle.script.proofs.ByteTests.{tested}
 
@@ -47,3 +48,22 @@ lines_of-lack (b ∷ bytes) = elim (tested (eqb b 10)) [
   | inl e ↦ rw e (lines_of-lack bytes)
   | inr e ↦ rw e (onto_lacks b (lines_of bytes) e (lines_of-lack bytes))
 ]
+
+-- a line that has an end
+abbrev pub whole_line : List ℕ → TextLine
+whole_line text = record { text = text; has_end = true }
+
+-- lines in front of a text
+pub lines_of-lines : (texts : List (List ℕ)) (rest : List ℕ) → list_all is_line_text texts ≡ true → lines_of (flat_map ended texts ++ rest) ≡ map whole_line texts ++ lines_of rest
+lines_of-lines [] rest h = refl
+lines_of-lines (text ∷ texts) rest h =
+    let p = and_parts (is_line_text text) (list_all is_line_text texts) h in
+    let l = and_parts (is_utf8 text) (list_all stands_in_line text) p.0 in
+    ap lines_of (append_assoc (ended text) (flat_map ended texts) rest)
+    ∙ (lines_of-front text (flat_map ended texts ++ rest) l.1 ∙ ap (λ lines. whole_line text ∷ lines) (lines_of-lines texts rest p.1))
+
+-- and the text that they are
+pub flat_map-lines : (texts : List (List ℕ)) (lines : List TextLine) → flat_map line_bytes (map whole_line texts ++ lines) ≡ flat_map ended texts ++ flat_map line_bytes lines
+flat_map-lines [] lines = refl
+flat_map-lines (text ∷ texts) lines =
+    ap (λ bytes. ended text ++ bytes) (flat_map-lines texts lines) ∙ sym (append_assoc (ended text) (flat_map ended texts) (flat_map line_bytes lines))

@@ -20,7 +20,7 @@ use Rattle.mux_run.specs.declared.steps.Side.TheVariants.{A, B}
 use Rattle.mux_run.specs.declared.steps.Call.TheVariants as call
 use Rattle.mux_run.specs.declared.steps.Step.{Step}
 use Rattle.mux_run.specs.declared.steps.Step.TheVariants as step
-use Rattle.script.specs.Spelling.{side_word, channel_word, offering_side, name_word, bytes_word, count_word, step_words, step_text, hyphen, everything, is_number, is_name, is_byte, is_spellable, stands_in_word, stands_in_line}
+use Rattle.script.specs.Spelling.{side_word, channel_word, offering_side, name_word, bytes_word, count_word, nonce_words, step_words, step_text, hyphen, everything, is_number, is_name, is_byte, is_spellable, stands_in_word, stands_in_line}
 use Rattle.script.specs.Words.{words_of}
 use Rattle.script.proofs.ByteTests.{tested, and_true}
 use Rattle.script.proofs.NumberLemmas.{own}
@@ -117,6 +117,11 @@ text_channel s key h = visible_word (channel_word s key) (visible_channel s key 
 
 text_number : (n : ℕ) → is_number n ≡ true → is_text_word (decimal n) ≡ true
 text_number n h = visible_word (decimal n) (visible_decimal n h)
+
+-- the words of a nonce
+pub nonce_words-texts : (side : Side) (nonce : List ℕ) → list_all is_byte nonce ≡ true → list_all is_text_word (nonce_words side nonce) ≡ true
+nonce_words-texts side nonce h =
+    three (codes "nonce") (side_word side) (bytes_word nonce) (visible_word (codes "nonce") refl) (text_side side) (visible_word (bytes_word nonce) (visible_bytes nonce h))
 
 -- the words of a step
 pub step_words-texts : (s : Step) → is_spellable s ≡ true → list_all is_text_word (step_words s) ≡ true

@@ -61,7 +61,7 @@ unfolding name_in
 name_in-word [] h = refl
 name_in-word (b ∷ bs) h = rw h refl
 
-bytes_from_test : (bs : List ℕ) → list_all is_byte bs ≡ true → IsBytes bs
+pub bytes_from_test : (bs : List ℕ) → list_all is_byte bs ≡ true → IsBytes bs
 bytes_from_test [] h i = omega arith
 bytes_from_test (b ∷ bs) h zero = let p = (and_parts (is_byte b) (list_all is_byte bs) h).0 in grind (arith, nat_tests)
 bytes_from_test (b ∷ bs) h (suc i) = bytes_from_test bs (and_parts (is_byte b) (list_all is_byte bs) h).1 i
@@ -203,7 +203,7 @@ count_in-some w n h = elim (chosen (bytes_eq w (codes "all")) everything (number
       (rw other number.1, rw (is_number-below n number.0) refl)
 ]
 
-test_from_bytes : (bs : List ℕ) → IsBytes bs → list_all is_byte bs ≡ true
+pub test_from_bytes : (bs : List ℕ) → IsBytes bs → list_all is_byte bs ≡ true
 test_from_bytes [] h = refl
 test_from_bytes (b ∷ bs) h =
     let small : b < 256 = h 0 in

@@ -1,19 +1,20 @@
 -- The script that bytes are, or its first broken line.
-use Rattle.std.specs.Prelude.{◌≡◌, ℕ, ◌+◌, List, [], ◌∷◌, ◌++◌, Result, Ok, Err, length}
+use Rattle.std.specs.Prelude.{◌≡◌, ◌≢◌, ◌≤◌, ℕ, ◌+◌, List, [], ◌∷◌, ◌++◌, Result, Ok, Err, length, if◌then◌else◌}
 use Rattle.std.specs.List.{list_any, flat_map}
 use Rattle.mux_run.specs.Built.{is_offer_step}
+use Rattle.mux_run.specs.Run.{Terms}
+use Rattle.mux_run.specs.declared.steps.Side.TheVariants.{A, B}
 use Rattle.mux_run.specs.declared.steps.Step.{Step}
 use Rattle.wire_base.specs.declared.frame.Version.{Version}
-use Rattle.wire_base.specs.declared.frame.Version.TheVariants as version
 use Rattle.script.specs.declared.reason.ScriptReason.{ScriptReason}
 use Rattle.script.specs.declared.reason.ScriptReason.TheVariants as reason
 use Rattle.script.specs.Lines.{TextLine, lines_of, line_bytes}
-use Rattle.script.specs.Spelling.{AreScripted, script_text}
-use Rattle.script.specs.Steps.{on_ok, text_in, step_after, format_in, version_in}
+use Rattle.script.specs.Spelling.{AreTerms, AreScripted, head_lines, head_text, script_text, has_nonces, no_nonce}
+use Rattle.script.specs.Steps.{on_ok, text_in, step_after, format_in, version_in, nonce_line_in}
 
 -- what bytes are as a script; lines are counted from 1
 pub data Found : Type 0 where
-  reads : Version → List Step → Found
+  reads : Terms → List Step → Found
   breaks : ℕ → ScriptReason → Found
 
 -- what the lines after this one make of what it stands for
@@ -22,35 +23,55 @@ behind number (Ok x) found = found x
 behind number (Err fault) found = breaks number fault
 
 -- the lines from this number on, behind these steps
-abbrev pub steps_from : Version → List Step → ℕ → List TextLine → Found
-steps_from version steps number [] = reads version steps
-steps_from version steps number (line ∷ lines) =
+abbrev pub steps_from : Terms → List Step → ℕ → List TextLine → Found
+steps_from terms steps number [] = reads terms steps
+steps_from terms steps number (line ∷ lines) =
     behind number (step_after (length steps) (list_any is_offer_step steps) line)
-    (λ s. steps_from version (steps ++ s ∷ []) (number + 1) lines)
+    (λ s. steps_from terms (steps ++ s ∷ []) (number + 1) lines)
+
+-- a head line with this number, which a script has, and what the lines after it make of what it stands for
+abbrev pub head_from : {X : Type 0} → ℕ → (List ℕ → Result X ScriptReason) → (X → List TextLine → Found) → List TextLine → Found
+head_from number read found [] = breaks number reason.BadHead
+head_from number read found (line ∷ lines) = behind number (on_ok (text_in line) read) (λ x. found x lines)
+
+-- the lines from the fourth on, behind A's nonce
+abbrev pub nonce_b_from : Version → (nonce_a : List ℕ) → List TextLine → Found
+nonce_b_from v a lines = head_from 4 (nonce_line_in B) (λ b. steps_from (record { version = v; nonce_a = a; nonce_b = b }) [] 5) lines
+
+-- the lines from the third on: the nonces, where the version has any, and the steps
+abbrev pub nonces_from : Version → List TextLine → Found
+nonces_from v lines =
+    if has_nonces v
+    then head_from 3 (nonce_line_in A) (nonce_b_from v) lines
+    else steps_from (record { version = v; nonce_a = no_nonce; nonce_b = no_nonce }) [] 3 lines
 
 -- the lines from the second on
 abbrev pub version_from : List TextLine → Found
-version_from [] = breaks 2 reason.BadHead
-version_from (line ∷ lines) = behind 2 (on_ok (text_in line) version_in) (λ v. steps_from v [] 3 lines)
+version_from lines = head_from 2 version_in nonces_from lines
 
 -- all lines
 abbrev pub script_from : List TextLine → Found
-script_from [] = breaks 1 reason.BadHead
-script_from (line ∷ lines) = behind 1 (on_ok (text_in line) format_in) (λ _. version_from lines)
+script_from lines = head_from 1 format_in (λ _. version_from) lines
 
 -- the script that the bytes are, or the first line that breaks it and why
 abbrev pub script_in : List ℕ → Found
 script_in bytes = script_from (lines_of bytes)
 
--- the bytes are the text of these steps, which a script may have
-pub record IsScript (bytes : List ℕ) (v : Version) (steps : List Step) : Type 0 where
-  pub version : v ≡ version.Three
+-- the bytes are the text of these terms and steps, which a script may have
+pub record IsScript (bytes : List ℕ) (terms : Terms) (steps : List Step) : Type 0 where
+  pub terms_are : AreTerms terms
   pub scripted : AreScripted steps
-  pub text : bytes ≡ script_text steps
+  pub text : bytes ≡ script_text terms steps
 
--- what stands before this line is the script of these steps, and the line is the first that breaks it
-pub record BreaksBehind (bytes : List ℕ) (number : ℕ) (fault : ScriptReason) (steps : List Step) (line : TextLine) (later : List TextLine) : Type 0 where
+-- what stands before this line is the script of these terms and steps, and the line is the first that breaks it
+pub record BreaksBehind (bytes : List ℕ) (number : ℕ) (fault : ScriptReason) (terms : Terms) (steps : List Step) (line : TextLine) (later : List TextLine) : Type 0 where
+  pub terms_are : AreTerms terms
   pub scripted : AreScripted steps
-  pub text : bytes ≡ script_text steps ++ flat_map line_bytes (line ∷ later)
-  pub place : number ≡ length steps + 3
+  pub text : bytes ≡ script_text terms steps ++ flat_map line_bytes (line ∷ later)
+  pub place : number ≡ length steps + length (head_lines terms) + 1
   pub broken : step_after (length steps) (list_any is_offer_step steps) line ≡ Err fault
+
+-- the bytes begin with the head of no script, and this line is one of the four that a head has at most
+pub record BreaksHead (bytes : List ℕ) (number : ℕ) : Type 0 where
+  pub no_head : (terms : Terms) (rest : List ℕ) → AreTerms terms → bytes ≢ head_text terms ++ rest
+  pub place : number ≤ 4

@@ -1,5 +1,6 @@
 -- What the parts of the reader answer.
 use Rattle.std.specs.Prelude.{◌≡◌, ℕ, Result, Ok, Err}
+use Rattle.mux_run.specs.Run.{terms_of}
 use Rattle.script.specs.declared.reason.ScriptReason.{ScriptReason}
 use Rattle.script.specs.declared.fault.LineFault.{LineFault}
 use Rattle.script.specs.declared.fault.LineFault.TheVariants as line_fault
@@ -41,4 +42,4 @@ Answers seen (Err fault) found = Stops fault found
 
 -- a script as its definition sees it
 abbrev pub script_seen : Script → Found
-script_seen s = reads s.version s.steps
+script_seen s = reads (terms_of s.version s.nonces) s.steps

@@ -1,7 +1,9 @@
 -- How a script is written. A step has exactly one text.
-use Rattle.std.specs.Prelude.{◌≡◌, ℕ, ◌-◌, ◌^◌, ◌≤◌, ◌==◌, nat_lt, List, [], ◌∷◌, ◌++◌, Bool, true, false, not, ◌&&◌, ◌||◌, if◌then◌else◌, codes, decimal, length}
+use Rattle.std.specs.Prelude.{◌≡◌, ℕ, ◌-◌, ◌^◌, ◌≤◌, ◌==◌, nat_lt, List, [], ◌∷◌, ◌++◌, Bool, true, false, not, ◌&&◌, ◌||◌, if◌then◌else◌, codes, decimal, length, replicate}
 use Rattle.std.specs.List.{list_all, flat_map, join_with_byte}
 use Rattle.std.specs.Str.{is_utf8, bytes_eq}
+use Rattle.wire_base.specs.declared.frame.Version.{Version}
+use Rattle.wire_base.specs.declared.frame.Version.TheVariants as version
 use Rattle.hex.specs.Hex.{encode_lower}
 use Rattle.mux_items.specs.declared.channel.ChannelKey.{ChannelKey}
 use Rattle.mux_run.specs.declared.steps.Side.{Side}
@@ -11,6 +13,7 @@ use Rattle.mux_run.specs.declared.steps.Call.TheVariants as call
 use Rattle.mux_run.specs.declared.steps.Step.{Step}
 use Rattle.mux_run.specs.declared.steps.Step.TheVariants as step
 use Rattle.mux_run.specs.Built.{AreBuilt}
+use Rattle.mux_run.specs.Run.{Terms}
 
 -- the letter of a side
 abbrev pub side_word : Side → List ℕ
@@ -76,17 +79,45 @@ step_text s = join_with_byte 32 (step_words s)
 abbrev pub ended : List ℕ → List ℕ
 ended text = text ++ 10 ∷ []
 
--- the first line names the format, the second the version
-abbrev pub head_text : List ℕ
-head_text = ended (codes "script 1") ++ ended (codes "version 3")
+-- how a version is written
+abbrev pub version_line : Version → List ℕ
+version_line version.One = codes "version 1"
+version_line version.Two = codes "version 2"
+version_line version.Three = codes "version 3"
+
+-- whether the ends of a version have nonces
+abbrev pub has_nonces : Version → Bool
+has_nonces version.One = true
+has_nonces version.Two = true
+has_nonces version.Three = false
+
+-- the words of a side's nonce: its letter, and two hex digits in lower case for each byte
+abbrev pub nonce_words : Side → List ℕ → List (List ℕ)
+nonce_words side nonce = codes "nonce" ∷ side_word side ∷ bytes_word nonce ∷ []
+
+-- those words, joined by single spaces
+abbrev pub nonce_line : Side → List ℕ → List ℕ
+nonce_line side nonce = join_with_byte 32 (nonce_words side nonce)
+
+-- the lines of the nonces, A's before B's, where the version has any
+abbrev pub nonce_lines : Terms → List (List ℕ)
+nonce_lines terms = if has_nonces terms.version then nonce_line A terms.nonce_a ∷ nonce_line B terms.nonce_b ∷ [] else []
+
+-- the first line names the format, the second the version, and those of the nonces follow
+abbrev pub head_lines : Terms → List (List ℕ)
+head_lines terms = codes "script 1" ∷ version_line terms.version ∷ nonce_lines terms
+
+-- the text of those lines
+abbrev pub head_text : Terms → List ℕ
+head_text terms = flat_map ended (head_lines terms)
 
 -- a line for each step
 abbrev pub step_lines : List Step → List ℕ
 step_lines steps = flat_map (λ s. ended (step_text s)) steps
 
 -- the text of a script: its head and the lines of its steps
-abbrev pub script_text : List Step → List ℕ
-script_text steps = head_text ++ step_lines steps
+abbrev pub script_text : Terms → List Step → List ℕ
+script_text terms steps = head_text terms ++ step_lines steps
 
 -- a number that a script can name
 abbrev pub is_number : ℕ → Bool
@@ -111,6 +142,21 @@ is_name name = is_utf8 name && list_all stands_in_word name && not (bytes_eq nam
 -- a byte's value
 abbrev pub is_byte : ℕ → Bool
 is_byte b = nat_lt b 256
+
+-- a nonce has sixteen bytes
+abbrev pub is_nonce : List ℕ → Bool
+is_nonce nonce = length nonce == 16 && list_all is_byte nonce
+
+-- what stands for the nonce of a side that has none
+abbrev pub no_nonce : List ℕ
+no_nonce = replicate 16 0
+
+-- each nonce has 16 bytes; in version 3, which has none, they are zeros
+pub record AreTerms (terms : Terms) : Type 0 where
+  pub a : is_nonce terms.nonce_a ≡ true
+  pub b : is_nonce terms.nonce_b ≡ true
+  pub none_a : has_nonces terms.version ≡ false → terms.nonce_a ≡ no_nonce
+  pub none_b : has_nonces terms.version ≡ false → terms.nonce_b ≡ no_nonce
 
 -- the numbers, the name and the bytes of a call have a word each
 abbrev pub is_spellable_call : Call → Bool

@@ -1,9 +1,10 @@
 -- What a line of a script stands for.
-use Rattle.std.specs.Prelude.{ℕ, nat_lt, List, [], ◌∷◌, Bool, false, not, ◌&&◌, ◌||◌, Option, Some, None, Result, Ok, Err, if◌then◌else◌, codes}
+use Rattle.std.specs.Prelude.{ℕ, nat_lt, List, [], ◌∷◌, Bool, false, not, ◌&&◌, Option, Some, None, Result, Ok, Err, if◌then◌else◌, codes}
 use Rattle.std.specs.Option.{ok_or}
 use Rattle.std.specs.List.{list_any}
 use Rattle.std.specs.Str.{is_utf8, bytes_eq}
 use Rattle.mux_run.specs.Built.{is_built_step, is_offer_step}
+use Rattle.mux_run.specs.declared.steps.Side.{Side}
 use Rattle.mux_run.specs.declared.steps.Call.TheVariants as call
 use Rattle.mux_run.specs.declared.steps.Step.{Step}
 use Rattle.mux_run.specs.declared.steps.Step.TheVariants as step
@@ -14,8 +15,8 @@ use Rattle.script.specs.declared.reason.ScriptReason.TheVariants as reason
 use Rattle.script.specs.declared.step_word.StepWord.{StepWord}
 use Rattle.script.specs.declared.step_word.StepWord.TheVariants as word
 use Rattle.script.specs.Lines.{TextLine}
-use Rattle.script.specs.Spelling.{most_steps}
-use Rattle.script.specs.Words.{◌>>=◌, words_of, side_in, number_in, channel_in, name_in, bytes_in, count_in}
+use Rattle.script.specs.Spelling.{most_steps, side_word}
+use Rattle.script.specs.Words.{◌>>=◌, words_of, side_in, number_in, channel_in, name_in, bytes_in, count_in, nonce_in}
 
 -- the step words of the format that no step of the program has yet
 abbrev pub later_words : List (List ℕ)
@@ -107,7 +108,7 @@ abbrev pub on_ok : {X Y : Type 0} → Result X ScriptReason → (X → Result Y 
 on_ok (Ok x) f = f x
 on_ok (Err fault) f = Err fault
 
--- one offer is built, and A makes it
+-- a step is built, and one offer at most, by either side
 unfoldable pub admitted : Bool → Step → Result Step ScriptReason
 admitted offered s = if is_built_step s && not (offered && is_offer_step s) then Ok s else Err reason.NotBuilt
 
@@ -127,6 +128,16 @@ format_in text = if bytes_eq text (codes "script 1") then Ok tt else Err reason.
 -- the second line
 unfoldable pub version_in : List ℕ → Result Version ScriptReason
 version_in text =
-    if bytes_eq text (codes "version 3") then Ok version.Three
-    else if bytes_eq text (codes "version 1") || bytes_eq text (codes "version 2") then Err reason.NotBuilt
+    if bytes_eq text (codes "version 1") then Ok version.One
+    else if bytes_eq text (codes "version 2") then Ok version.Two
+    else if bytes_eq text (codes "version 3") then Ok version.Three
     else Err reason.BadHead
+
+-- a side's nonce from the words of its line
+unfoldable pub nonce_of : Side → List (List ℕ) → Option (List ℕ)
+nonce_of side (first ∷ letter ∷ digits ∷ []) = if bytes_eq first (codes "nonce") && bytes_eq letter (side_word side) then nonce_in digits else None
+nonce_of side words = None
+
+-- the line of a side's nonce
+unfoldable pub nonce_line_in : Side → List ℕ → Result (List ℕ) ScriptReason
+nonce_line_in side text = ok_or (nonce_of side (words_of text)) reason.BadHead

@@ -62,6 +62,12 @@ name_in word = if bytes_eq word hyphen then Some [] else if bytes_eq word [] the
 unfoldable pub bytes_in : List ℕ → Option (List ℕ)
 bytes_in word = if bytes_eq word hyphen then Some [] else (result_ok (decode_of word) >>= if_written bytes_word word)
 
+-- hex digits in lower case, two for each of sixteen bytes
+unfoldable pub nonce_in : List ℕ → Option (List ℕ)
+nonce_in word = do
+  nonce ← bytes_in word
+  if length nonce == 16 then Some nonce else None
+
 -- a capital letter, which stands in no hex word
 abbrev pub is_capital : ℕ → Bool
 is_capital b = nat_le 65 b && nat_le b 90

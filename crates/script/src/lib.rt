@@ -1,7 +1,8 @@
-//! Scripts: a version of the multiplexing protocol and the steps of two joined ends, as lines of text.
+//! Scripts: a version of the multiplexing protocol, the nonces of two joined ends and their steps, as lines of text.
 #![tactic(auto)]
 
 mod fault;
+mod head;
 mod laws;
 mod lines;
 mod reading;

@@ -1,7 +1,13 @@
 //! The lines of a text, one after another.
 
 ghost use Rattle.std.specs.Prelude.{◌≡◌, ◌==◌, ◌∷◌, ◌<◌, [], length, MatchOption, IfSome, position};
+ghost use Rattle.script.specs.Given.{Gives, line_seen};
 ghost use Rattle.script.specs.Lines.{lines_of};
+ghost use Rattle.script.specs.Steps.{text_in};
+
+use crate::fault::LineFault;
+use crate::reason::ScriptReason;
+use std::str;
 
 /// A line without its line feed, whether one ends it, and what follows.
 #[derive(Clone, Copy, Debug)]
@@ -38,4 +44,19 @@ fn line_end(bytes: &[u8]) -> Option<usize>
     ensures { result ≡ position (λ b. b == 10) bytes.now }
 {
     bytes.iter().position(|byte| *byte == b'\n')
+}
+
+/// The text of a whole line.
+#[tactic(auto, using(crate::proofs::TextLemmas::texts))]
+pub fn text<'a>(line: &Line<'a>) -> Result<&'a str, LineFault>
+    ensures { Gives (λ t. t.now) result (text_in (line_seen line.now)) }
+{
+    let Ok(text) = str::from_utf8(line.text) else {
+        return Err(LineFault::Refused(ScriptReason::NotUtf8));
+    };
+    if line.has_end {
+        Ok(text)
+    } else {
+        Err(LineFault::Refused(ScriptReason::NoLineEnd))
+    }
 }

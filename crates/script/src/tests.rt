@@ -83,6 +83,40 @@ fn reads_the_forms_of_words(rt: HostRuntime) -> Result<(), Fail> {
     Ok(())
 }
 
+const NONCE_A: &str = "nonce A 000102030405060708090a0b0c0d0e0f\n";
+
+const NONCE_B: &str = "nonce B fffefdfcfbfaf9f8f7f6f5f4f3f2f1f0\n";
+
+#[test]
+fn reads_the_nonces_of_versions_1_and_2(rt: HostRuntime) -> Result<(), Fail> {
+    let nonces = [
+        *b"\x00\x01\x02\x03\x04\x05\x06\x07\x08\x09\x0a\x0b\x0c\x0d\x0e\x0f",
+        *b"\xff\xfe\xfd\xfc\xfb\xfa\xf9\xf8\xf7\xf6\xf5\xf4\xf3\xf2\xf1\xf0",
+    ];
+    for (number, version) in [(1, Version::One), (2, Version::Two)] {
+        let text = format!(in rt.alloc();
+            "script 1\nversion {number}\n{NONCE_A}{NONCE_B}deliver A 7\n"
+        )?;
+        let script = read_script(rt.alloc(), text.as_bytes())?;
+        assert_eq!(rt; script.version, version);
+        assert!(rt; script.nonces == nonces);
+        assert_eq!(rt; script.steps.len(), 1);
+    }
+    Ok(())
+}
+
+#[test]
+fn reads_an_offer_by_b(rt: HostRuntime) -> Result<(), Fail> {
+    let script = read_script(rt.alloc(), b"script 1\nversion 3\noffer B a 8\n")?;
+    assert!(rt;
+        are(
+            script.steps.as_slice(),
+            &[((Side::B, 0, false, 8), b"a".as_slice())],
+        )
+    );
+    Ok(())
+}
+
 /// The first broken line and the number of its reason, and 0 where there is none.
 fn broken(alloc: Global, bytes: &[u8]) -> (u64, u32) {
     match read_script(alloc, bytes) {
@@ -106,9 +140,10 @@ fn refuses_broken_heads(rt: HostRuntime) {
         ("script 1 \nversion 3\n", 1, 90),
         ("\nscript 1\nversion 3\n", 1, 90),
         ("script 1\nversion 3", 2, 97),
-        ("script 1\nversion 1\n", 2, 94),
-        ("script 1\nversion 2\nnonce A 00\n", 2, 94),
+        ("script 1\nversion 0\n", 2, 90),
         ("script 1\nversion 4\n", 2, 90),
+        ("script 1\nversion3\n", 2, 90),
+        ("script 1\nversion 1", 2, 97),
         ("script 1\noffer A a 8\n", 2, 90),
     ];
     for (text, line, number) in table {
@@ -117,12 +152,63 @@ fn refuses_broken_heads(rt: HostRuntime) {
 }
 
 #[test]
+fn refuses_broken_nonces(rt: HostRuntime) -> Result<(), Fail> {
+    let table = [
+        ("", 3, 90),
+        (NONCE_A, 4, 90),
+        (NONCE_B, 3, 90),
+        ("nonce A 000102030405060708090a0b0c0d0e0\n", 3, 90),
+        ("nonce A 000102030405060708090a0b0c0d0e\n", 3, 90),
+        ("nonce A 000102030405060708090a0b0c0d0e0f10\n", 3, 90),
+        ("nonce A 000102030405060708090A0B0C0D0E0F\n", 3, 90),
+        ("nonce A 000102030405060708090a0b0c0d0e0g\n", 3, 90),
+        ("nonce A -\n", 3, 90),
+        ("nonce A000102030405060708090a0b0c0d0e0f\n", 3, 90),
+        ("nonceA 000102030405060708090a0b0c0d0e0f\n", 3, 90),
+        ("nonce A  000102030405060708090a0b0c0d0e0f\n", 3, 90),
+        ("nonce A 000102030405060708090a0b0c0d0e0f \n", 3, 90),
+        ("nonce A 000102030405060708090a0b0c0d0e0f", 3, 97),
+        ("offer A a 8\n", 3, 90),
+    ];
+    for version in [1, 2] {
+        for (text, line, number) in table {
+            let script = format!(in rt.alloc(); "script 1\nversion {version}\n{text}")?;
+            expect_broken(&rt, rt.alloc(), script.as_bytes(), line, number);
+        }
+    }
+    Ok(())
+}
+
+#[test]
+fn counts_the_lines_of_the_head(rt: HostRuntime) -> Result<(), Fail> {
+    let table = [
+        (NONCE_A, 4, 90),
+        ("nonce B FFFEFDFCFBFAF9F8F7F6F5F4F3F2F1F0\n", 4, 90),
+        (NONCE_B, 0, 0),
+        ("nonce B fffefdfcfbfaf9f8f7f6f5f4f3f2f1f0\nx\n", 5, 91),
+        (
+            "nonce B fffefdfcfbfaf9f8f7f6f5f4f3f2f1f0\noffer B a 8\noffer A b 8\n",
+            6,
+            94,
+        ),
+    ];
+    for (text, line, number) in table {
+        let script = format!(in rt.alloc(); "script 1\nversion 2\n{NONCE_A}{text}")?;
+        expect_broken(&rt, rt.alloc(), script.as_bytes(), line, number);
+    }
+    let script = format!(in rt.alloc(); "script 1\nversion 3\n{NONCE_A}{NONCE_B}")?;
+    expect_broken(&rt, rt.alloc(), script.as_bytes(), 3, 91);
+    Ok(())
+}
+
+#[test]
 fn refuses_broken_steps(rt: HostRuntime) -> Result<(), Fail> {
     let table = [
         ("offer C a 8\n", 3, 92),
-        ("offer B a 8\n", 3, 94),
         ("offer B a 08\n", 3, 92),
         ("offer A a 8\noffer A b 8\n", 4, 94),
+        ("offer A a 8\noffer B b 8\n", 4, 94),
+        ("offer B a 8\noffer A b 8\n", 4, 94),
         ("offer A a 8\noffer A b x\n", 4, 92),
         ("complete A A1\n", 3, 94),
         ("complete\n", 3, 94),
@@ -162,6 +248,7 @@ fn refuses_bytes_that_are_no_text(rt: HostRuntime) {
     expect_broken(&rt, alloc, b"script \xff\nversion 3\n", 1, 95);
     expect_broken(&rt, alloc, b"script 1\nversion 3\noffer A \xff 8\n", 3, 95);
     expect_broken(&rt, alloc, b"script 1\nversion 3\nx \xff", 3, 95);
+    expect_broken(&rt, alloc, b"script 1\nversion 2\nnonce A \xff", 3, 95);
     expect_broken(
         &rt,
         alloc,

@@ -1,11 +1,11 @@
 //! The words of a line, and what each stands for.
 
 ghost use Rattle.std.specs.Prelude.{◌≡◌, map, IfOk, Some, None};
-ghost use Rattle.script.specs.Words.{words_of, side_in, number_in, channel_in, name_in, bytes_in, count_in, has_other_front, front_in, is_capital};
+ghost use Rattle.script.specs.Words.{words_of, side_in, number_in, channel_in, name_in, bytes_in, nonce_in, count_in, has_other_front, front_in, is_capital};
 ghost use Rattle.std.specs.Option.{option_map};
 ghost use Rattle.std.specs.List.{list_any};
 
-use hex::FromHexError;
+use hex::{FromHex, FromHexError};
 use mux_items::ChannelKey;
 use mux_run::Side;
 use std::alloc::Global;
@@ -98,6 +98,17 @@ pub fn bytes(alloc: Global, word: &str) -> Result<Option<Blob>, OutOfMemory>
         Err(FromHexError::OutOfMemory) => Err(OutOfMemory),
         Err(_) => Ok(None),
     }
+}
+
+/// A nonce, whose sixteen bytes have two digits each.
+#[tactic(auto, using(crate::proofs::NonceWords::nonces))]
+pub fn nonce(word: &str) -> Option<[u8; 16]>
+    ensures { result ≡ nonce_in word.now }
+{
+    if has_capital(word) {
+        return None;
+    }
+    <[u8; 16] as FromHex>::from_hex(word).ok()
 }
 
 fn has_capital(word: &str) -> bool
