@@ -1,8 +1,7 @@
 -- What a replay has read and written when it answers a status.
-use Rattle.std.specs.Prelude.{◌≡◌, ◌≤◌, ℕ, List, Bool, true, length, Option, replicate}
+use Rattle.std.specs.Prelude.{◌≡◌, ◌≤◌, ℕ, List, Bool, true, length, Option}
 use Rattle.std.specs.Io.KnownBytes.{append_known}
 use Rattle.wire_base.specs.Causes.{Rose}
-use Rattle.wire_base.specs.declared.frame.Version.{Version}
 use Rattle.mux_run.specs.declared.steps.Step.{Step}
 use Rattle.mux_run.specs.Run.{Terms}
 use Rattle.mux_run.specs.Safe.{IsSafeRun}
@@ -28,31 +27,27 @@ pub record SinkState : Type 0 where
   pub faults : ℕ
   pub flushed : Bool
 
--- the terms of a script: version 3 has no nonces
-abbrev pub script_terms : Version → Terms
-script_terms v = record { version = v; nonce_a = replicate 16 0; nonce_b = replicate 16 0 }
-
 -- the input was read to its end, within the limit, and is a script
 pub record ReadScript (old new : SourceState) : Type 0 where
   pub bytes : List ℕ
-  pub version : Version
+  pub terms : Terms
   pub steps : List Step
   pub was_read : WasRead old.held new.held bytes
   pub within : length bytes ≤ most_input
   pub ended : new.ended ≡ true
   pub at_end : HoldsNothing new.held
-  pub is_script : script_in bytes ≡ reads version steps
+  pub is_script : script_in bytes ≡ reads terms steps
 
 -- the report of the run of a script that was read
 abbrev pub text_of : {old new : SourceState} → ReadScript old new → List ℕ
-text_of s = report_text (script_terms s.version) s.steps
+text_of s = report_text s.terms s.steps
 
 -- the output has grown by exactly the report of the run of the script that was read, and that run is safe
 pub record ReplayDone (old new : SourceState) (before after : SinkState) : Type 0 where
   pub script : ReadScript old new
   pub written : after.given ≡ append_known before.given (text_of script)
   pub flushed : after.flushed ≡ true
-  pub safe : IsSafeRun (script_terms script.version) script.steps
+  pub safe : IsSafeRun script.terms script.steps
 
 -- writing failed: a front of the report is written
 pub record WritingFailed (old new : SourceState) (before after : SinkState) : Type 0 where

@@ -1,15 +1,15 @@
 //! The command `replay`.
 
-ghost use Rattle.std.specs.Prelude.{◌≡◌, ◌≤◌, ◌↔◌, ◌⊎◌, ℕ, List, length, replicate, true, false, Some, IfOk};
+ghost use Rattle.std.specs.Prelude.{◌≡◌, ◌≤◌, ◌↔◌, ◌⊎◌, ℕ, List, length, true, false, Some, IfOk};
 ghost use Rattle.wire_base.specs.Causes.{Rose};
-ghost use Rattle.wire_base.specs.declared.frame.Version.{Version};
 ghost use Rattle.mux_run.specs.Built.{AreBuilt};
+ghost use Rattle.mux_run.specs.Run.{Terms, terms_of};
 ghost use Rattle.mux_run.specs.declared.steps.Step.{Step};
 ghost use Rattle.transcript.specs.Report.{report_text};
 ghost use Rattle.script.specs.Found.{script_in, reads};
 ghost use Rattle.muxrpc_app.specs.Words.{is_replay};
 ghost use Rattle.muxrpc_app.specs.Streams.{most_input};
-ghost use Rattle.muxrpc_app.specs.Outcome.{Replayed, input_status, script_terms};
+ghost use Rattle.muxrpc_app.specs.Outcome.{Replayed, input_status};
 
 use crate::input::{InputFault, read_input};
 use crate::output::write_output;
@@ -41,10 +41,8 @@ fn input_status(fault: InputFault) -> Status
 
 /// The report of the run of a script.
 fn report_of(alloc: Global, script: Script) -> Result<Vec<u8>, OutOfMemory>
-    requires version { script.version ≡ Version.Three }
-    requires nonces { script.nonces ≡ replicate 2 (replicate 16 0) }
-    requires built { AreBuilt script.steps }
-    ensures { IfOk result (λ text. text.items ≡ report_text (script_terms script.version) script.steps) }
+    requires { AreBuilt script.steps }
+    ensures { IfOk result (λ text. text.items ≡ report_text (terms_of script.version script.nonces) script.steps) }
 {
     let mut text = Vec::new(alloc);
     let _world = report(alloc, script, &mut text)?;
@@ -104,8 +102,8 @@ pub fn run_plain<S: Source, K: Sink>(
         result }
 
     // A script within the limit is replayed, unless a call of the input or the output failed or memory ran out.
-    ensures complete { (bytes : List ℕ) (version : Version) (steps : List Step) → is_replay words.now ≡ true →
-        S.held input.old ≡ Some bytes → length bytes ≤ most_input → script_in bytes ≡ reads version steps →
+    ensures complete { (bytes : List ℕ) (terms : Terms) (steps : List Step) → is_replay words.now ≡ true →
+        S.held input.old ≡ Some bytes → length bytes ≤ most_input → script_in bytes ≡ reads terms steps →
         ¬ (Rose (S.faults input.old) (S.faults input.new)) → ¬ (Rose (K.faults output.old) (K.faults output.new)) →
         (result ≡ Status.Done) ⊎ (result ≡ Status.OutOfMemory) }
 {

@@ -142,6 +142,98 @@ B A1 live written 0 emitted 0 taken 5 handed 5
 end
 ";
 
+/// Version 1, whose odd side has the greater nonce: its content goes without windows and acknowledgements.
+const PLAIN: &str = "script 1
+version 1
+nonce A 00000000000000000000000000000000
+nonce B 01010101010101010101010101010101
+deliver B all
+offer B a 8
+deliver A all
+accept A B1 8
+deliver B all
+write B B1 68656c6c6f
+deliver A all
+read A B1 10
+";
+
+const PLAIN_REPORT: &str = "report 1
+0 start
+ A> 2fdf1d5000000000000000000000000000000000
+ B> 2fdf1d5001010101010101010101010101010101
+1 delivered 20
+ B ready
+2 channel B1
+ B> 0000000001000161
+3 delivered 28
+ A ready
+ A offered B1
+4 ok
+ A> 01000000010000
+5 delivered 7
+ B accepted B1
+6 ok
+ B> 0200000001000568656c6c6f
+7 delivered 12
+ A content B1 5
+8 bytes 68656c6c6f
+state
+A running
+A B1 live written 0 emitted 0 taken 5 handed 5
+B running
+B B1 live written 5 emitted 5 taken 0 handed 0
+end
+";
+
+/// Version 2, in which A has the greater nonce.
+const PACKED: &str = "script 1
+version 2
+nonce A 01010101010101010101010101010101
+nonce B 00000000000000000000000000000000
+deliver A all
+deliver B all
+offer A a 8
+";
+
+const PACKED_REPORT: &str = "report 1
+0 start
+ A> 92920200c41001010101010101010101010101010101
+ B> 92920200c41000000000000000000000000000000000
+1 delivered 22
+ A ready
+2 delivered 22
+ B ready
+3 channel A1
+ A> 930001c40492a16108
+state
+A running
+A A1 waiting written 0 emitted 0 taken 0 handed 0
+B running
+end
+";
+
+/// Version 2 with equal nonces.
+const SAME_NONCES: &str = "script 1
+version 2
+nonce A 000102030405060708090a0b0c0d0e0f
+nonce B 000102030405060708090a0b0c0d0e0f
+deliver B all
+offer B a 8
+";
+
+const SAME_NONCES_REPORT: &str = "report 1
+0 start
+ A> 92920200c410000102030405060708090a0b0c0d0e0f
+ B> 92920200c410000102030405060708090a0b0c0d0e0f
+1 delivered 22
+ B ended 6 22 SameNonce
+2 refused 42 Ended
+state
+A running
+B ended 6 22 SameNonce
+end
+";
+
 #[test]
 fn an_empty_script_and_the_credit_script_are_reported(rt: HostRuntime) -> Result<(), Fail> {
     let alloc = rt.alloc();
@@ -152,6 +244,15 @@ fn an_empty_script_and_the_credit_script_are_reported(rt: HostRuntime) -> Result
         "report 1\n0 start\nstate\nA running\nB running\nend\n",
     )?;
     replays(&rt, alloc, CREDIT, CREDIT_REPORT)?;
+    Ok(())
+}
+
+#[test]
+fn handshakes_come_before_frames(rt: HostRuntime) -> Result<(), Fail> {
+    let alloc = rt.alloc();
+    replays(&rt, alloc, PLAIN, PLAIN_REPORT)?;
+    replays(&rt, alloc, PACKED, PACKED_REPORT)?;
+    replays(&rt, alloc, SAME_NONCES, SAME_NONCES_REPORT)?;
     Ok(())
 }
 
@@ -198,14 +299,15 @@ fn broken_scripts_are_refused_at_their_line(rt: HostRuntime) -> Result<(), Fail>
             "script 1\nversion 3\noffer C a 8\n",
             Status::ScriptRefused(3, 92),
         ),
-        ("script 1\nversion 2\n", Status::ScriptRefused(2, 94)),
+        ("script 1\nversion 2\n", Status::ScriptRefused(3, 90)),
+        ("script 1\nversion 4\n", Status::ScriptRefused(2, 90)),
         (
-            "script 1\nversion 3\noffer A a 8\noffer A b 8\n",
+            "script 1\nversion 3\noffer B a 8\noffer A b 8\n",
             Status::ScriptRefused(4, 94),
         ),
         (
-            "script 1\nversion 3\noffer B a 8\n",
-            Status::ScriptRefused(3, 94),
+            "script 1\nversion 3\noffer A a 8\noffer A b 8\n",
+            Status::ScriptRefused(4, 94),
         ),
         (
             "script 1\nversion 3\ncomplete A A1\n",

@@ -1,10 +1,10 @@
 -- What a world has run.
 use Rattle.std.specs.Prelude.{◌≡◌, ℕ, List, false}
 use Rattle.wire_base.specs.declared.frame.Version.{Version}
-use Rattle.mux_run.specs.Run.{Terms}
+use Rattle.mux_run.specs.Run.{Terms, terms_of}
 use Rattle.mux_run.specs.Safe.{IsSafeRun}
 use Rattle.mux_run.specs.declared.steps.Step.{Step}
-use Rattle.duo_world.specs.Holding.{DuoState, StandsForRun, terms_of}
+use Rattle.duo_world.specs.Holding.{DuoState, StandsForRun}
 
 -- these are the steps that were made in the world of these terms, and their run is safe
 pub record HasMade (terms : Terms) (steps : List Step) (d : DuoState) : Type 0 where

@@ -21,7 +21,7 @@ use duo_world::Duo;
 use mux_run::{DuoAnswer, EndEvent, Side, Step};
 use script::Script;
 use std::alloc::Global;
-use wire_base::{OutOfMemory, Version};
+use wire_base::OutOfMemory;
 
 /// The side that a step is made at.
 fn side_of(step: &Step) -> Side
@@ -131,7 +131,6 @@ fn push_steps(
 }
 
 fn push_report(alloc: Global, out: &mut Vec<u8>, script: Script) -> Result<Duo, OutOfMemory>
-    requires version { script.version ≡ Version.Three }
     requires built { AreBuilt script.steps }
     ensures text { IfOk result (λ d. out.new.items ≡ out.old.items ++ report_text d.terms script.steps) }
     ensures ran { IfOk result (HasRun script.version script.nonces script.steps) }
@@ -152,7 +151,6 @@ fn push_report(alloc: Global, out: &mut Vec<u8>, script: Script) -> Result<Duo, 
 ///
 /// The world that ran it is answered: its terms and its steps are the script's. Where memory runs out nothing is appended.
 pub fn report(alloc: Global, script: Script, out: &mut Vec<u8>) -> Result<Duo, OutOfMemory>
-    requires version { script.version ≡ Version.Three }
     requires built { AreBuilt script.steps }
     ensures text { IfOk result (λ d. out.new.items ≡ out.old.items ++ report_text d.terms script.steps) }
     ensures ran { IfOk result (HasRun script.version script.nonces script.steps) }

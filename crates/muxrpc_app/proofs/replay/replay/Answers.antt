@@ -3,19 +3,19 @@ use Rattle.std.specs.Io.KnownBytes.{append_known}
 use Rattle.mux_run.proofs.Safety.{run_safe}
 use Rattle.script.specs.Found.{script_in}
 use Rattle.transcript.specs.Report.{report_text}
-use Rattle.muxrpc_app.specs.Outcome.{script_terms}
+use Rattle.mux_run.specs.Run.{terms_of}
 use Rattle.muxrpc_app.proofs.replay.replay.Goals as goal
 
 pub returns-in-Ok-write_output : goal.returns-in-Ok-write_output
 returns-in-Ok-write_output g c =
     let s = c.in-Ok-read_script.script in
     let e = c.in-Ok.ensures in
-    let text : c.deref-2.result.now ≡ report_text (script_terms s.version) s.steps = c.deref-2.ensures.value ∙ c.in-Ok-report_of.ensures in
+    let text : c.deref-2.result.now ≡ report_text (terms_of s.version s.nonces) s.steps = c.deref-2.ensures.value ∙ c.in-Ok-report_of.ensures in
     record {
       outcome = record {
         script = record {
           bytes = c.in-Ok.bytes.items;
-          version = s.version;
+          terms = terms_of s.version s.nonces;
           steps = s.steps;
           was_read = e.bytes;
           within = e.within;
@@ -25,7 +25,7 @@ returns-in-Ok-write_output g c =
         };
         written = c.in-Ok-write_output.ensures.written ∙ ap (append_known (g.K.Sink.given c.args.output.now)) text;
         flushed = c.in-Ok-write_output.ensures.flushed;
-        safe = run_safe (script_terms s.version) s.steps;
+        safe = run_safe (terms_of s.version s.nonces) s.steps;
       };
     }
 
@@ -33,13 +33,13 @@ pub returns : goal.returns
 returns g c =
     let s = c.in-Ok-read_script.script in
     let e = c.in-Ok.ensures in
-    let text : c.deref-2.result.now ≡ report_text (script_terms s.version) s.steps = c.deref-2.ensures.value ∙ c.in-Ok-report_of.ensures in
+    let text : c.deref-2.result.now ≡ report_text (terms_of s.version s.nonces) s.steps = c.deref-2.ensures.value ∙ c.in-Ok-report_of.ensures in
     let front = c.in-Err-write_output.ensures.front in
     record {
       outcome = record {
         script = record {
           bytes = c.in-Ok.bytes.items;
-          version = s.version;
+          terms = terms_of s.version s.nonces;
           steps = s.steps;
           was_read = e.bytes;
           within = e.within;
