@@ -7,14 +7,15 @@ use Rattle.wire_base.specs.declared.out_of_memory.OutOfMemory.{OutOfMemory}
 use Rattle.mux_items.specs.Items.{Item, is_running, ended}
 use Rattle.mux_items.specs.Due.{got}
 use Rattle.mux_run.specs.declared.steps.Side.{Side}
-use Rattle.mux_run.specs.declared.steps.Call.{Call}
-use Rattle.mux_run.specs.declared.steps.Call.TheVariants as call
+use Rattle.mux_items.specs.declared.call.Call.{Call}
+use Rattle.mux_items.specs.declared.call.Call.TheVariants as call
 use Rattle.mux_run.specs.declared.steps.Step.TheVariants as step
 use Rattle.mux_run.specs.declared.answers.Reply.{Reply}
 use Rattle.mux_run.specs.declared.answers.EndEvent.{EndEvent}
 use Rattle.mux_run.specs.declared.answers.DuoAnswer.{DuoAnswer}
 use Rattle.mux_run.specs.declared.answers.DuoAnswer.TheVariants as duo
-use Rattle.mux_run.specs.Run.{Half, Ways, settled, call_refusal, item_of_call, unless_refused, called, half_after}
+use Rattle.mux_items.specs.Calls.{call_refusal, item_of_call, unless_refused, called}
+use Rattle.mux_run.specs.Run.{RunSide, SideTerms, settled, side_after}
 use Rattle.mux_run.specs.Answers.{reply_to, events_since, event_list, answer_at}
 use Rattle.mux_run.proofs.Fed.{lie_same, greeting_called}
 use Rattle.mux_run.proofs.Growing.{called_grown}
@@ -58,7 +59,7 @@ called_events v c items = elim (call_refusal v c items) as (λ r. events_since v
 ]
 
 -- an end on which a call was made, and which runs
-pub called_on : (w : Ways) (c : Call) (side : Side) (own new peer : EndValue) (events : List EndEvent) (x y : Half) → IsReadyFor w (step.Call side c) own peer x y → is_running_state own.state ≡ true → events ≡ []
+pub called_on : (w : SideTerms) (c : Call) (side : Side) (own new peer : EndValue) (events : List EndEvent) (x y : RunSide) → IsReadyFor w (step.Call side c) own peer x y → is_running_state own.state ≡ true → events ≡ []
     → IsCallable w new (half (called w.version c x.items) x.delivered) y → IsOnWay w x.delivered (length x.items) new events (called w.version c x.items) y
 called_on w c side own new peer events x y r running none h =
     let v = w.version in
@@ -79,16 +80,16 @@ called_on w c side own new peer events x y r running none h =
     }
 
 -- the answer of a call at an end that runs
-pub called_settled : (w : Ways) (c : Call) (side : Side) (new : EndValue) (reply : Reply) (events : List EndEvent) (x y : Half) → reply ≡ reply_to w.version c x.items
+pub called_settled : (w : SideTerms) (c : Call) (side : Side) (new : EndValue) (reply : Reply) (events : List EndEvent) (x y : RunSide) → reply ≡ reply_to w.version c x.items
     → IsSettled w (length x.items) new events (settled w x.delivered (called w.version c x.items) y) y
-    → (duo.Replied reply events ≡ answer_at w (step.Call side c) x y) × IsCallable w new (half_after w (step.Call side c) x y) y
+    → (duo.Replied reply events ≡ answer_at w (step.Call side c) x y) × IsCallable w new (side_after w (step.Call side c) x y) y
 called_settled w c side new reply events x y is s =
     (ap₂ (λ r es. duo.Replied r es) is s.events_are, record { stands = s.stands; sayable = s.sayable })
 
 -- the answer at one that doesn't
-pub called_stopped : (w : Ways) (c : Call) (side : Side) (own new peer : EndValue) (reply : Reply) (events : List EndEvent) (x y : Half) → IsReadyFor w (step.Call side c) own peer x y → is_running_state own.state ≡ false → events ≡ []
+pub called_stopped : (w : SideTerms) (c : Call) (side : Side) (own new peer : EndValue) (reply : Reply) (events : List EndEvent) (x y : RunSide) → IsReadyFor w (step.Call side c) own peer x y → is_running_state own.state ≡ false → events ≡ []
     → Calls w c new x y reply
-    → (duo.Replied reply events ≡ answer_at w (step.Call side c) x y) × IsCallable w new (half_after w (step.Call side c) x y) y
+    → (duo.Replied reply events ≡ answer_at w (step.Call side c) x y) × IsCallable w new (side_after w (step.Call side c) x y) y
 called_stopped w c side own new peer reply events x y r stopped none h =
     let v = w.version in
     let items = called v c x.items in
@@ -99,20 +100,20 @@ called_stopped w c side own new peer reply events x y r stopped none h =
     )
 
 -- the two ends after a call at x
-pub called_both : (w : Ways) (c : Call) (side : Side) (own new peer : EndValue) (x y : Half) → IsReadyFor w (step.Call side c) own peer x y → IsCallable w new (half_after w (step.Call side c) x y) y
-    → AreStanding w new peer (half_after w (step.Call side c) x y) y
+pub called_both : (w : SideTerms) (c : Call) (side : Side) (own new peer : EndValue) (x y : RunSide) → IsReadyFor w (step.Call side c) own peer x y → IsCallable w new (side_after w (step.Call side c) x y) y
+    → AreStanding w new peer (side_after w (step.Call side c) x y) y
 called_both w c side own new peer x y r h = record {
   own_stands = h;
   peer_stands = record { stands = peer_stays w (step.Call side c) peer x y r.joined r.peer_stands.stands; sayable = r.peer_stands.sayable };
 }
 
 -- the answer of a delivery
-pub delivery_answers : (w : Ways) (n : ℕ) (side : Side) (own peer : EndValue) (events : List EndEvent) (x y : Half) (count : ℕ) → Delivers w n own peer events x y count
-    → (duo.Delivered count events ≡ answer_at w (step.Deliver side n) x y) × AreStanding w own peer (half_after w (step.Deliver side n) x y) y
+pub delivery_answers : (w : SideTerms) (n : ℕ) (side : Side) (own peer : EndValue) (events : List EndEvent) (x y : RunSide) (count : ℕ) → Delivers w n own peer events x y count
+    → (duo.Delivered count events ≡ answer_at w (step.Deliver side n) x y) × AreStanding w own peer (side_after w (step.Deliver side n) x y) y
 delivery_answers w n side own peer events x y count d = (ap₂ (λ k es. duo.Delivered k es) d.0 d.1, d.2)
 
 -- the answer of a call, with the other end
-pub called_step : (w : Ways) (c : Call) (side : Side) (own new peer : EndValue) (result : Result DuoAnswer OutOfMemory) (x y : Half) → IsReadyFor w (step.Call side c) own peer x y
+pub called_step : (w : SideTerms) (c : Call) (side : Side) (own new peer : EndValue) (result : Result DuoAnswer OutOfMemory) (x y : RunSide) → IsReadyFor w (step.Call side c) own peer x y
     → IfOk result (CallAnswersAt w side c new x y) → IfOk result (StepAnswersAt w (step.Call side c) new peer x y)
 called_step w c side own new peer (Ok a) x y r h = (h.0, called_both w c side own new peer x y r h.1)
 called_step w c side own new peer (Err e) x y r h = tt

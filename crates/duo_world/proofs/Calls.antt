@@ -17,16 +17,18 @@ use Rattle.mux_items.specs.declared.party.Party.{Party}
 use Rattle.mux_items.specs.declared.party.Party.TheVariants.{Odd, Even, Neither}
 use Rattle.mux_items.specs.Bodies.{frame_texts, has_parity}
 use Rattle.mux_items.specs.Items.{Item, DidOffer, DidAccept, DidWrite, DidRead, ended, greeting, party_of}
-use Rattle.mux_items.specs.Kept.{is_known, is_kept, own_id, own_offers, next_key, most_channels, kept_keys, own_windows}
+use Rattle.mux_items.specs.Limits.{most_channels, most_windows}
+use Rattle.mux_items.specs.Kept.{is_known, is_kept, own_id, own_offers, next_key, kept_keys, own_windows}
 use Rattle.mux_items.specs.Due.{due, got}
-use Rattle.mux_items.specs.Refusals.{is_ready, unless_ended, is_bad_window, most_windows, or_else, open_refusal, writing_refusal, offer_refusal, accept_refusal, write_refusal, read_refusal}
+use Rattle.mux_items.specs.Refusals.{is_ready, unless_ended, is_bad_window, or_else, open_refusal, writing_refusal, offer_refusal, accept_refusal, write_refusal, read_refusal}
 use Rattle.mux_items.specs.Parties.{party_by}
 use Rattle.mux_items.proofs.Permits.{if_none}
-use Rattle.mux_run.specs.declared.steps.Call.{Call}
-use Rattle.mux_run.specs.declared.steps.Call.TheVariants as call
+use Rattle.mux_items.specs.declared.call.Call.{Call}
+use Rattle.mux_items.specs.declared.call.Call.TheVariants as call
 use Rattle.mux_run.specs.declared.answers.Reply.{Reply}
+use Rattle.mux_items.specs.Calls.{call_refusal, item_of_call, unless_refused, called}
 use Rattle.mux_run.specs.declared.answers.Reply.TheVariants as reply
-use Rattle.mux_run.specs.Run.{Half, Ways, call_refusal, item_of_call, unless_refused, called}
+use Rattle.mux_run.specs.Run.{RunSide, SideTerms}
 use Rattle.mux_run.specs.Answers.{success, refused_or, reply_to}
 use Rattle.mux_end.specs.Stands.{EndValue}
 use Rattle.mux_end.specs.Replies.{Adds, CallAnswers}
@@ -96,7 +98,7 @@ id_fits version.Two id a b = rw (lt-ltb 0 id a, lt-ltb id 0x8000000000000000 (om
 id_fits version.Three id a b = rw (lt-ltb 0 id a, lt-ltb id 0x8000000000000000 (omega arith)) refl
 
 -- the next own offer draws an id of the own party
-next_sayable : (w : Ways) (items : List Item) → AreSayable w items → is_ready w.version items ≡ true → own_offers items < 2147483647 → IsSayableKey w (next_key items)
+next_sayable : (w : SideTerms) (items : List Item) → AreSayable w items → is_ready w.version items ≡ true → own_offers items < 2147483647 → IsSayableKey w (next_key items)
 next_sayable w items s ready few =
     let k = own_offers items in
     let small = id_small (party_of items) k few in
@@ -109,7 +111,7 @@ next_sayable w items s ready few =
 
 -- the item of an accepted call can be said
 
-pub offer_sayable : (w : Ways) (name : List ℕ) (size : ℕ) (items : List Item) → AreSayable w items → IsUtf8 name → size < 2 ^ 32 → offer_refusal w.version name size items ≡ None → IsSayable w (DidOffer (next_key items) name size)
+pub offer_sayable : (w : SideTerms) (name : List ℕ) (size : ℕ) (items : List Item) → AreSayable w items → IsUtf8 name → size < 2 ^ 32 → offer_refusal w.version name size items ≡ None → IsSayable w (DidOffer (next_key items) name size)
 offer_sayable w name size items s text small e =
     let o = offerable w.version name size items e in
     record {
@@ -118,13 +120,13 @@ offer_sayable w name size items s text small e =
       size_is = omega arith;
     }
 
-pub accept_sayable : (w : Ways) (c : ChannelKey) (size : ℕ) (items : List Item) → AreSayable w items → size < 2 ^ 32 → accept_refusal w.version c size items ≡ None → IsSayable w (DidAccept c size)
+pub accept_sayable : (w : SideTerms) (c : ChannelKey) (size : ℕ) (items : List Item) → AreSayable w items → size < 2 ^ 32 → accept_refusal w.version c size items ≡ None → IsSayable w (DidAccept c size)
 accept_sayable w c size items s small e = record { key_is = known_sayable w c items s (accept_known w.version c size items e); count_is = omega arith }
 
-pub write_sayable : (w : Ways) (c : ChannelKey) (bytes : List ℕ) (items : List Item) → AreSayable w items → write_refusal w.version c bytes items ≡ None → IsSayable w (DidWrite c bytes)
+pub write_sayable : (w : SideTerms) (c : ChannelKey) (bytes : List ℕ) (items : List Item) → AreSayable w items → write_refusal w.version c bytes items ≡ None → IsSayable w (DidWrite c bytes)
 write_sayable w c bytes items s e = known_sayable w c items s (write_known w.version c bytes items e)
 
-pub read_sayable : (w : Ways) (c : ChannelKey) (max : ℕ) (items : List Item) → AreSayable w items → max < 2 ^ 32 → read_refusal w.version c items ≡ None → IsSayable w (DidRead c max)
+pub read_sayable : (w : SideTerms) (c : ChannelKey) (max : ℕ) (items : List Item) → AreSayable w items → max < 2 ^ 32 → read_refusal w.version c items ≡ None → IsSayable w (DidRead c max)
 read_sayable w c max items s small e = record { key_is = known_sayable w c items s (read_known w.version c items e); count_is = omega arith }
 
 -- what a call answered
@@ -155,7 +157,7 @@ refused : {A : Type 0} (old new : EndValue) (items : List Item) (at : ℕ) (rest
 refused old new items at rest None item IsAnswer r' a = absurd a
 refused old new items at rest (Some r) item IsAnswer r' a = (ap (λ r. Some r) (sym a.0), a.1)
 
-pub call_accepted : {A : Type 0} (w : Ways) (c : Call) (old new : EndValue) (x y : Half) (r : Option Refusal) (IsAnswer : A → Type 0) (z : A) → IsCallable w old x y
+pub call_accepted : {A : Type 0} (w : SideTerms) (c : Call) (old new : EndValue) (x y : RunSide) (r : Option Refusal) (IsAnswer : A → Type 0) (z : A) → IsCallable w old x y
     → call_refusal w.version c x.items ≡ r → (r ≡ None → IsSayable w (item_of_call c x.items))
     → CallAnswers old new x.items (place_of w x y) (rest_of w x y) r (item_of_call c x.items) IsAnswer (Ok z)
     → IsAnswer z × (reply_to w.version c x.items ≡ success w.version c x.items) × IsCallable w new (half (called w.version c x.items) x.delivered) y
@@ -173,7 +175,7 @@ call_accepted w c old new x y r IsAnswer z h is says a =
       }),
     )
 
-pub call_refused : {A : Type 0} (w : Ways) (c : Call) (old new : EndValue) (x y : Half) (r : Option Refusal) (IsAnswer : A → Type 0) (r' : Refusal) → IsCallable w old x y
+pub call_refused : {A : Type 0} (w : SideTerms) (c : Call) (old new : EndValue) (x y : RunSide) (r : Option Refusal) (IsAnswer : A → Type 0) (r' : Refusal) → IsCallable w old x y
     → call_refusal w.version c x.items ≡ r
     → CallAnswers old new x.items (place_of w x y) (rest_of w x y) r (item_of_call c x.items) IsAnswer (Err (fault.Refused r'))
     → Calls w c new x y (reply.Refused r')
@@ -187,7 +189,7 @@ call_refused w c old new x y r IsAnswer r' h is a =
 
 -- the same by what an end answers, whose version is that of the ways
 
-pub call_done : {A : Type 0} (w : Ways) (c : Call) (old new : EndValue) (x y : Half) (IsAnswer : A → Type 0) (z : A) → IsCallable w old x y
+pub call_done : {A : Type 0} (w : SideTerms) (c : Call) (old new : EndValue) (x y : RunSide) (IsAnswer : A → Type 0) (z : A) → IsCallable w old x y
     → (call_refusal w.version c x.items ≡ None → IsSayable w (item_of_call c x.items))
     → CallAnswers old new x.items (place_of w x y) (rest_of w x y) (call_refusal old.version c x.items) (item_of_call c x.items) IsAnswer (Ok z)
     → IsAnswer z × (reply_to w.version c x.items ≡ success w.version c x.items) × IsCallable w new (half (called w.version c x.items) x.delivered) y
@@ -195,7 +197,7 @@ call_done w c old new x y IsAnswer z h says a =
     let is : call_refusal w.version c x.items ≡ call_refusal old.version c x.items = sym (ap (λ v. call_refusal v c x.items) h.stands.version) in
     call_accepted w c old new x y (call_refusal old.version c x.items) IsAnswer z h is (λ e. says (is ∙ e)) a
 
-pub call_failed : {A : Type 0} (w : Ways) (c : Call) (old new : EndValue) (x y : Half) (IsAnswer : A → Type 0) (f : CallFault) (result : Result Reply OutOfMemory) → Answered f result → IsCallable w old x y
+pub call_failed : {A : Type 0} (w : SideTerms) (c : Call) (old new : EndValue) (x y : RunSide) (IsAnswer : A → Type 0) (f : CallFault) (result : Result Reply OutOfMemory) → Answered f result → IsCallable w old x y
     → CallAnswers old new x.items (place_of w x y) (rest_of w x y) (call_refusal old.version c x.items) (item_of_call c x.items) IsAnswer (Err f)
     → IfOk result (Calls w c new x y)
 call_failed w c old new x y IsAnswer (fault.Refused r) result answered h a =

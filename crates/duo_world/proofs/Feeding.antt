@@ -11,19 +11,20 @@ use Rattle.wire_base.specs.declared.state.EndState.TheVariants as state
 use Rattle.mux_items.specs.Bodies.{ChannelFrame, flip, frame_texts}
 use Rattle.mux_items.specs.Items.{Item, End, is_running, ended}
 use Rattle.mux_items.specs.Due.{due, sent, got}
-use Rattle.mux_items.specs.Refusals.{is_ready, most_bytes}
+use Rattle.mux_items.specs.Limits.{most_bytes}
+use Rattle.mux_items.specs.Refusals.{is_ready}
 use Rattle.mux_run.specs.declared.steps.Side.{Side}
 use Rattle.mux_run.specs.declared.steps.Step.{Step}
 use Rattle.mux_run.specs.declared.steps.Step.TheVariants as step
 use Rattle.mux_run.specs.declared.answers.EndEvent.{EndEvent}
 use Rattle.mux_run.specs.declared.answers.EndEvent.TheVariants as event
-use Rattle.mux_run.specs.Run.{Half, Ways, turned, out, whole_frames, greeting_size, place_after, settled, in_flight, added, is_spent, delivered_to, half_after}
+use Rattle.mux_run.specs.Run.{RunSide, SideTerms, turned, out, whole_frames, greeting_size, place_after, settled, in_flight, added, is_spent, delivered_to, side_after}
 use Rattle.mux_run.specs.Answers.{events_since, delivered_count}
 use Rattle.mux_run.specs.Linked.{Joined}
 use Rattle.mux_run.specs.Fed.{LieWithin, IsFed}
 use Rattle.mux_run.proofs.Fed.{lie_more}
 use Rattle.mux_run.proofs.WholeFrames.{frame_texts-append, whole_fits, take_whole}
-use Rattle.mux_run.proofs.Growing.{sent_grows, out-more, half_after_grown}
+use Rattle.mux_run.proofs.Growing.{sent_grows, out-more, side_after_grown}
 use Rattle.mux_end.specs.Stands.{EndValue, MuxStands, state_by}
 use Rattle.mux_end.specs.Ends.{with_output}
 use Rattle.mux_end.specs.Tests.{is_running_state}
@@ -41,7 +42,7 @@ state_runs : (o : Option Cause) → is_running_state (state_by o) ≡ is_none o
 state_runs None = refl
 state_runs (Some c) = refl
 
-pub runs_as : (w : Ways) (end : EndValue) (x y : Half) → HalfStands w end x y → is_running_state end.state ≡ is_running x.items
+pub runs_as : (w : SideTerms) (end : EndValue) (x y : RunSide) → HalfStands w end x y → is_running_state end.state ≡ is_running x.items
 runs_as w end x y h = ap is_running_state h.stands.state ∙ state_runs (ended x.items)
 
 -- what x applied of y lies in what was delivered
@@ -54,7 +55,7 @@ place_within v n k fs h =
     let texts : frame_texts v whole ≡ front ++ back = ap (frame_texts v) (sym (take-append-drop k whole)) ∙ frame_texts-append v (take k whole) (drop k whole) in
     omega (arith, ap (λ gs. length (frame_texts v gs)) (take_whole v n k fs h), ap length texts, length-append front back, whole_fits v n fs)
 
-pub place_below : (w : Ways) (d : ℕ) (items : List Item) (y : Half) → LieWithin w d items y → place_of w (half items d) y ≤ d
+pub place_below : (w : SideTerms) (d : ℕ) (items : List Item) (y : RunSide) → LieWithin w d items y → place_of w (half items d) y ≤ d
 place_below w d items y l = by (is_ready w.version items) refl
   where
     by : (b : Bool) → is_ready w.version items ≡ b → (if b then place_after w (length (got items)) y else 0) ≤ d
@@ -62,19 +63,19 @@ place_below w d items y l = by (is_ready w.version items) refl
     by false unready = omega arith
 
 -- the bytes that were fed are those that were delivered
-fed_count : (w : Ways) (x y : Half) → IsFed w x y → x.delivered ≤ length (out w.version w.peer y.items) → place_of w x y + length (rest_of w x y) ≡ x.delivered
+fed_count : (w : SideTerms) (x y : RunSide) → IsFed w x y → x.delivered ≤ length (out w.version w.peer y.items) → place_of w x y + length (rest_of w x y) ≡ x.delivered
 fed_count w x y f bound =
     let bytes = out w.version w.peer y.items in
     omega (arith, place_below w x.delivered x.items y f.lie, length-drop (place_of w x y) (take x.delivered bytes), length-take x.delivered bytes)
 
 -- the output of an end is what is in flight from it
-pub in_flight_is : (w : Ways) (peer : EndValue) (x y : Half) → HalfStands (turned w) peer y x → peer.output ≡ in_flight w x y
+pub in_flight_is : (w : SideTerms) (peer : EndValue) (x y : RunSide) → HalfStands (turned w) peer y x → peer.output ≡ in_flight w x y
 in_flight_is w peer x y h =
     append_cancel_left (take x.delivered (out w.version w.peer y.items)) peer.output (in_flight w x y) (h.output ∙ sym (take-append-drop x.delivered (out w.version w.peer y.items)))
 
 -- the end y stays, while the items of x grow
 
-pub peer_grows : (w : Ways) (end : EndValue) (y x : Half) (items : List Item) (more : List ChannelFrame) → HalfStands w end y x → sent w.version items ≡ sent w.version x.items ++ more
+pub peer_grows : (w : SideTerms) (end : EndValue) (y x : RunSide) (items : List Item) (more : List ChannelFrame) → HalfStands w end y x → sent w.version items ≡ sent w.version x.items ++ more
     → length (got y.items) ≤ length (sent w.version x.items) → y.delivered ≤ length (out w.version w.peer x.items) → HalfStands w end y (half items x.delivered)
 peer_grows w end y x items more h grown applied bound =
     let v = w.version in
@@ -94,19 +95,19 @@ peer_grows w end y x items more h grown applied bound =
     }
 
 -- the end y stays, while x makes a step, but for what is delivered
-pub peer_stays : (w : Ways) (s : Step) (peer : EndValue) (x y : Half) → Joined w x y → HalfStands (turned w) peer y x → HalfStands (turned w) peer y (half (half_after w s x y).items x.delivered)
+pub peer_stays : (w : SideTerms) (s : Step) (peer : EndValue) (x y : RunSide) → Joined w x y → HalfStands (turned w) peer y x → HalfStands (turned w) peer y (half (side_after w s x y).items x.delivered)
 peer_stays w s peer x y j h =
     let v = w.version in
-    let g = half_after_grown w s x y in
-    let more = sent_grows v x.items (half_after w s x y).items g.0 g.1 in
+    let g = side_after_grown w s x y in
+    let more = sent_grows v x.items (side_after w s x y).items g.0 g.1 in
     let applied : length (got y.items) ≤ length (sent v x.items) = omega (arith, ap length j.back.applied, length-append (map flip (got y.items)) j.back.ahead, length-map (got y.items) flip) in
-    peer_grows (turned w) peer y x (half_after w s x y).items more.0 h more.1 applied j.back.bound
+    peer_grows (turned w) peer y x (side_after w s x y).items more.0 h more.1 applied j.back.bound
 
 -- bytes of y's output were taken from it
 stands_output : (end : EndValue) (bytes : List ℕ) (items : List Item) (at : ℕ) (rest : List ℕ) → MuxStands end items at rest → MuxStands (with_output bytes end) items at rest
 stands_output end bytes items at rest s = record { greeting = s.greeting; channel = s.channel; at_is = s.at_is; rest_is = s.rest_is; state = s.state; built = s.built; allowed = s.allowed }
 
-pub peer_took : (w : Ways) (m : ℕ) (peer : EndValue) (items : List Item) (d : ℕ) (y : Half) → HalfStands (turned w) peer y (half items d) → m ≤ length peer.output
+pub peer_took : (w : SideTerms) (m : ℕ) (peer : EndValue) (items : List Item) (d : ℕ) (y : RunSide) → HalfStands (turned w) peer y (half items d) → m ≤ length peer.output
     → HalfStands (turned w) (with_output (drop m peer.output) peer) y (half items (d + m))
 peer_took w m peer items d y h small =
     let bytes = out w.version w.peer y.items in
@@ -121,7 +122,7 @@ peer_took w m peer items d y h small =
 
 -- x was given m bytes more
 
-fed_rest : (w : Ways) (m : ℕ) (x y : Half) → IsFed w x y → x.delivered ≤ length (out w.version w.peer y.items)
+fed_rest : (w : SideTerms) (m : ℕ) (x y : RunSide) → IsFed w x y → x.delivered ≤ length (out w.version w.peer y.items)
     → rest_of w (half x.items (x.delivered + m)) y ≡ rest_of w x y ++ take m (in_flight w x y)
 fed_rest w m x y f bound =
     let bytes = out w.version w.peer y.items in
@@ -129,7 +130,7 @@ fed_rest w m x y f bound =
     let within : place ≤ length (take x.delivered bytes) = omega (arith, place_below w x.delivered x.items y f.lie, length-take x.delivered bytes) in
     ap (drop place) (take-add x.delivered m bytes) ∙ drop-append-le place (take x.delivered bytes) (take m (drop x.delivered bytes)) within
 
-half_fed : (w : Ways) (m : ℕ) (own fed : EndValue) (x y : Half) (piece : List ℕ) → IsFed w x y → x.delivered ≤ length (out w.version w.peer y.items) → HalfStands w own x y
+half_fed : (w : SideTerms) (m : ℕ) (own fed : EndValue) (x y : RunSide) (piece : List ℕ) → IsFed w x y → x.delivered ≤ length (out w.version w.peer y.items) → HalfStands w own x y
     → piece ≡ take m (in_flight w x y) → KeepsPiece own fed x.items (place_of w x y) (rest_of w x y) piece → HalfStands w fed (half x.items (x.delivered + m)) y
 half_fed w m own fed x y piece f bound h is k = record {
   stands = subst (MuxStands fed x.items (place_of w x y)) (ap (λ bs. rest_of w x y ++ bs) is ∙ sym (fed_rest w m x y f bound)) k.stands;
@@ -165,34 +166,34 @@ spent_by own fed items at rest piece s c true e (spent r k) = (refl, cc (e, r), 
 
 -- the sides of a delivery
 
-spent_same : (w : Ways) (n : ℕ) (x y : Half) (piece : List ℕ) → IsFed w x y → x.delivered ≤ length (out w.version w.peer y.items) → length piece ≡ added w n x y
+spent_same : (w : SideTerms) (n : ℕ) (x y : RunSide) (piece : List ℕ) → IsFed w x y → x.delivered ≤ length (out w.version w.peer y.items) → length piece ≡ added w n x y
     → replies.is_spent (place_of w x y) (rest_of w x y) piece ≡ is_spent w n x y
 spent_same w n x y piece f bound size = ap (λ k. nat_lt most_bytes (k + length piece)) (fed_count w x y f bound) ∙ ap (λ k. nat_lt most_bytes (x.delivered + k)) size
 
-delivered_stopped : (w : Ways) (n : ℕ) (x y : Half) → is_running x.items ≡ false → delivered_to w n x y ≡ x
+delivered_stopped : (w : SideTerms) (n : ℕ) (x y : RunSide) → is_running x.items ≡ false → delivered_to w n x y ≡ x
 delivered_stopped w n x y e = ap (λ b. if not b then x else if is_spent w n x y then record { items = End cause.Spent ∷ x.items; delivered = x.delivered } else settled w (x.delivered + added w n x y) x.items y) e
 
-delivered_kept : (w : Ways) (n : ℕ) (x y : Half) → is_running x.items ≡ true → is_spent w n x y ≡ false → delivered_to w n x y ≡ settled w (x.delivered + added w n x y) x.items y
+delivered_kept : (w : SideTerms) (n : ℕ) (x y : RunSide) → is_running x.items ≡ true → is_spent w n x y ≡ false → delivered_to w n x y ≡ settled w (x.delivered + added w n x y) x.items y
 delivered_kept w n x y e s =
     ap (λ b. if not b then x else if is_spent w n x y then record { items = End cause.Spent ∷ x.items; delivered = x.delivered } else settled w (x.delivered + added w n x y) x.items y) e
     ∙ ap (λ b. if b then record { items = End cause.Spent ∷ x.items; delivered = x.delivered } else settled w (x.delivered + added w n x y) x.items y) s
 
-delivered_spent : (w : Ways) (n : ℕ) (x y : Half) → is_running x.items ≡ true → is_spent w n x y ≡ true → delivered_to w n x y ≡ half (End cause.Spent ∷ x.items) x.delivered
+delivered_spent : (w : SideTerms) (n : ℕ) (x y : RunSide) → is_running x.items ≡ true → is_spent w n x y ≡ true → delivered_to w n x y ≡ half (End cause.Spent ∷ x.items) x.delivered
 delivered_spent w n x y e s =
     ap (λ b. if not b then x else if is_spent w n x y then record { items = End cause.Spent ∷ x.items; delivered = x.delivered } else settled w (x.delivered + added w n x y) x.items y) e
     ∙ ap (λ b. if b then record { items = End cause.Spent ∷ x.items; delivered = x.delivered } else settled w (x.delivered + added w n x y) x.items y) s
 
-count_stopped : (w : Ways) (n : ℕ) (x y : Half) → is_running x.items ≡ false → delivered_count w n x y ≡ 0
+count_stopped : (w : SideTerms) (n : ℕ) (x y : RunSide) → is_running x.items ≡ false → delivered_count w n x y ≡ 0
 count_stopped w n x y e = ap (λ b. if not b then 0 else if is_spent w n x y then 0 else added w n x y) e
 
-count_kept : (w : Ways) (n : ℕ) (x y : Half) → is_running x.items ≡ true → is_spent w n x y ≡ false → delivered_count w n x y ≡ added w n x y
+count_kept : (w : SideTerms) (n : ℕ) (x y : RunSide) → is_running x.items ≡ true → is_spent w n x y ≡ false → delivered_count w n x y ≡ added w n x y
 count_kept w n x y e s = ap (λ b. if not b then 0 else if is_spent w n x y then 0 else added w n x y) e ∙ ap (λ b. if b then 0 else added w n x y) s
 
-count_spent : (w : Ways) (n : ℕ) (x y : Half) → is_running x.items ≡ true → is_spent w n x y ≡ true → delivered_count w n x y ≡ 0
+count_spent : (w : SideTerms) (n : ℕ) (x y : RunSide) → is_running x.items ≡ true → is_spent w n x y ≡ true → delivered_count w n x y ≡ 0
 count_spent w n x y e s = ap (λ b. if not b then 0 else if is_spent w n x y then 0 else added w n x y) e ∙ ap (λ b. if b then 0 else added w n x y) s
 
 -- an end that doesn't run
-pub delivers_nothing : (w : Ways) (n : ℕ) (side : Side) (own peer : EndValue) (events : List EndEvent) (x y : Half) → IsReadyFor w (step.Deliver side n) own peer x y → is_running_state own.state ≡ false → events ≡ []
+pub delivers_nothing : (w : SideTerms) (n : ℕ) (side : Side) (own peer : EndValue) (events : List EndEvent) (x y : RunSide) → IsReadyFor w (step.Deliver side n) own peer x y → is_running_state own.state ≡ false → events ≡ []
     → Delivers w n own peer events x y 0
 delivers_nothing w n side own peer events x y r stopped none =
     let e = sym (runs_as w own x y r.own_stands.stands) ∙ stopped in
@@ -203,7 +204,7 @@ delivers_nothing w n side own peer events x y r stopped none =
     )
 
 -- an end that keeps what was delivered goes on with it
-pub delivers_on : (w : Ways) (n m : ℕ) (side : Side) (own fed peer : EndValue) (events : List EndEvent) (piece : List ℕ) (s : EndState) (x y : Half) → IsReadyFor w (step.Deliver side n) own peer x y → is_running_state own.state ≡ true → events ≡ []
+pub delivers_on : (w : SideTerms) (n m : ℕ) (side : Side) (own fed peer : EndValue) (events : List EndEvent) (piece : List ℕ) (s : EndState) (x y : RunSide) → IsReadyFor w (step.Deliver side n) own peer x y → is_running_state own.state ≡ true → events ≡ []
     → m ≡ min n (length peer.output) → piece ≡ take m peer.output
     → FeedAnswers own fed x.items (place_of w x y) (rest_of w x y) piece (ended x.items) (replies.is_spent (place_of w x y) (rest_of w x y) piece) (Ok s) → s ≡ state.Running
     → IsOnWay w (x.delivered + m) (length x.items) fed events x.items y × (m ≡ added w n x y) × (is_running x.items ≡ true) × (is_spent w n x y ≡ false)
@@ -234,7 +235,7 @@ delivers_on w n m side own fed peer events piece s x y r running none count is a
       sym (spent_same w n x y piece r.fed bound long) ∙ k.0,
     )
 
-pub delivers_kept : (w : Ways) (n m : ℕ) (side : Side) (own new peer peer' : EndValue) (events : List EndEvent) (x y : Half) → IsReadyFor w (step.Deliver side n) own peer x y
+pub delivers_kept : (w : SideTerms) (n m : ℕ) (side : Side) (own new peer peer' : EndValue) (events : List EndEvent) (x y : RunSide) → IsReadyFor w (step.Deliver side n) own peer x y
     → (m ≡ added w n x y) × (is_running x.items ≡ true) × (is_spent w n x y ≡ false) → m ≤ length peer.output → peer' ≡ with_output (drop m peer.output) peer
     → IsSettled w (length x.items) new events (settled w (x.delivered + m) x.items y) y → Delivers w n new peer' events x y m
 delivers_kept w n m side own new peer peer' events x y r facts small took done =
@@ -252,7 +253,7 @@ delivers_kept w n m side own new peer peer' events x y r facts small took done =
     )
 
 -- an end that would be fed more than may be
-pub delivers_spent : (w : Ways) (n m : ℕ) (side : Side) (own new peer : EndValue) (events events' : List EndEvent) (piece : List ℕ) (s : EndState) (c : Cause) (x y : Half) → IsReadyFor w (step.Deliver side n) own peer x y → is_running_state own.state ≡ true → events ≡ []
+pub delivers_spent : (w : SideTerms) (n m : ℕ) (side : Side) (own new peer : EndValue) (events events' : List EndEvent) (piece : List ℕ) (s : EndState) (c : Cause) (x y : RunSide) → IsReadyFor w (step.Deliver side n) own peer x y → is_running_state own.state ≡ true → events ≡ []
     → m ≡ min n (length peer.output) → piece ≡ take m peer.output
     → FeedAnswers own new x.items (place_of w x y) (rest_of w x y) piece (ended x.items) (replies.is_spent (place_of w x y) (rest_of w x y) piece) (Ok s) → s ≡ state.Ended c
     → events' ≡ events ++ event.Ended c ∷ [] → Delivers w n new peer events' x y 0

@@ -19,7 +19,7 @@ use Rattle.mux_items.specs.Refusals.{frame_refusal, is_ready}
 use Rattle.mux_items.specs.Applying.{frame_event}
 use Rattle.mux_run.specs.Plain.{IsPlainNext}
 use Rattle.mux_handshake.specs.Handshake.{handshake}
-use Rattle.mux_run.specs.Run.{Half, Ways, greeting_size, next_frames, place_after, settled}
+use Rattle.mux_run.specs.Run.{RunSide, SideTerms, greeting_size, next_frames, place_after, settled}
 use Rattle.mux_run.specs.Answers.{events_since, event_list}
 use Rattle.mux_run.specs.declared.answers.EndEvent.{EndEvent}
 use Rattle.mux_run.specs.declared.answers.EndEvent.TheVariants as event
@@ -58,7 +58,7 @@ built_same v c (ContentProcessed count) items p = reason_same (frame_refusal v c
 
 -- what comes next at an end that is ready
 
-next_some : (w : Ways) (d at : ℕ) (items : List Item) (y : Half) (f : ChannelFrame) (fs : List ChannelFrame) → IsSettling w d items y → is_ready w.version items ≡ true → next_frames w d (length (got items)) y ≡ f ∷ fs
+next_some : (w : SideTerms) (d at : ℕ) (items : List Item) (y : RunSide) (f : ChannelFrame) (fs : List ChannelFrame) → IsSettling w d items y → is_ready w.version items ≡ true → next_frames w d (length (got items)) y ≡ f ∷ fs
     → next_from w.version items at (front w.version (rest_of w (half items d) y)) ≡ next_by (flip f) at (length (frame_text w.version f)) (frame_refusal w.version (flip f).key f.body items)
 next_some w d at items y f fs s ready e =
     let v = w.version in
@@ -68,20 +68,20 @@ next_some w d at items y f fs s ready e =
     ∙ ap (next_by (flip f) at size) (built_same v (flip f).key f.body items (next_plain w d items y f fs s e)))
 
 -- the cases of what comes next: nothing is whole, the peer's handshake, a frame, or what is refused
-pub data Coming (w : Ways) (d : ℕ) (items : List Item) (y : Half) : Next → Type 0 where
+pub data Coming (w : SideTerms) (d : ℕ) (items : List Item) (y : RunSide) : Next → Type 0 where
   waits : (settled w d items y).items ≡ items → Coming w d items y Waits
   greets : is_ready w.version items ≡ false → greeting_size w ≤ d → bytes_eq w.own w.peer ≡ false → Coming w d items y (Greets (party_by w.own w.peer) (greeting_size w))
   applies : is_ready w.version items ≡ true → (f : ChannelFrame) (fs : List ChannelFrame) → next_frames w d (length (got items)) y ≡ f ∷ fs → frame_refusal w.version (flip f).key f.body items ≡ None
       → Coming w d items y (Applies (flip f).key f.body (length (frame_text w.version f)))
   refuses : (place : ℕ) (r : Reason) → (settled w d items y).items ≡ End (refused_at place r) ∷ items → Coming w d items y (Refuses place r)
 
-coming_frame : (w : Ways) (d : ℕ) (items : List Item) (y : Half) (f : ChannelFrame) (fs : List ChannelFrame) (r : Option Reason) → IsSettling w d items y → is_running items ≡ true → is_ready w.version items ≡ true
+coming_frame : (w : SideTerms) (d : ℕ) (items : List Item) (y : RunSide) (f : ChannelFrame) (fs : List ChannelFrame) (r : Option Reason) → IsSettling w d items y → is_running items ≡ true → is_ready w.version items ≡ true
     → next_frames w d (length (got items)) y ≡ f ∷ fs → frame_refusal w.version (flip f).key f.body items ≡ r → Coming w d items y (next_by (flip f) (place_of w (half items d) y) (length (frame_text w.version f)) r)
 coming_frame w d items y f fs None s runs ready e ok = applies ready f fs e ok
 coming_frame w d items y f fs (Some r) s runs ready e refusal =
     refuses (place_of w (half items d) y) r (settled_refused w d items y f fs r s ready e runs refusal ∙ ap (λ n. End (refused_at n r) ∷ items) (sym (place_ready w (half items d) y ready)))
 
-coming_ready : (w : Ways) (d : ℕ) (items : List Item) (y : Half) → IsSettling w d items y → is_running items ≡ true → is_ready w.version items ≡ true
+coming_ready : (w : SideTerms) (d : ℕ) (items : List Item) (y : RunSide) → IsSettling w d items y → is_running items ≡ true → is_ready w.version items ≡ true
     → Coming w d items y (next_from w.version items (place_of w (half items d) y) (front w.version (rest_of w (half items d) y)))
 coming_ready w d items y s runs ready = by (next_frames w d (length (got items)) y) refl
   where
@@ -91,7 +91,7 @@ coming_ready w d items y s runs ready = by (next_frames w d (length (got items))
 
 -- and at one that isn't
 
-coming_unready : (w : Ways) (d : ℕ) (items : List Item) (y : Half) → IsSettling w d items y → is_running items ≡ true → is_ready w.version items ≡ false
+coming_unready : (w : SideTerms) (d : ℕ) (items : List Item) (y : RunSide) → IsSettling w d items y → is_running items ≡ true → is_ready w.version items ≡ false
     → Coming w d items y (next_greeting (place_of w (half items d) y) (handshake w.version w.own (rest_of w (half items d) y)))
 coming_unready w d items y s runs unready = elim (cases_lt d (greeting_size w)) [
   | inl less ↦ subst (Coming w d items y) (sym (ap (next_greeting at) (greets_short w d items y s.nonces unready less))) (waits (settled_short w d items y runs unready less))
@@ -105,7 +105,7 @@ coming_unready w d items y s runs unready = elim (cases_lt d (greeting_size w)) 
     at : ℕ
     at = place_of w (half items d) y
 
-pub coming : (w : Ways) (d : ℕ) (items : List Item) (y : Half) → IsSettling w d items y → is_running items ≡ true
+pub coming : (w : SideTerms) (d : ℕ) (items : List Item) (y : RunSide) → IsSettling w d items y → is_running items ≡ true
     → Coming w d items y (next_of w.version w.own items (place_of w (half items d) y) (rest_of w (half items d) y))
 coming w d items y s runs = by (is_ready w.version items) refl
   where
@@ -130,10 +130,10 @@ terms_step old new items at rest c v nonce answer p q a =
     subst (λ n. StepAnswers old new items at rest c (next_of v n items at rest) answer) q (subst (λ v. StepAnswers old new items at rest c (next_of v old.nonce items at rest) answer) p a)
 
 -- a step that greeted or applied a frame: the end is on its way, and what is left to apply leaves it where it would have been left
-abbrev pub GoesOn : Ways → (d older : ℕ) → EndValue → List EndEvent → List Item → Half → Type 0
+abbrev pub GoesOn : SideTerms → (d older : ℕ) → EndValue → List EndEvent → List Item → RunSide → Type 0
 GoesOn w d older own events items y = (now : List Item) × IsOnWay w d older own events now y × ((settled w d now y).items ≡ (settled w d items y).items)
 
-event_goes : (w : Ways) (d older : ℕ) (old new : EndValue) (events : List EndEvent) (items : List Item) (y : Half) (e : MuxEvent) (next : Next) → IsOnWay w d older old events items y → Coming w d items y next
+event_goes : (w : SideTerms) (d older : ℕ) (old new : EndValue) (events : List EndEvent) (items : List Item) (y : RunSide) (e : MuxEvent) (next : Next) → IsOnWay w d older old events items y → Coming w d items y next
     → StepAnswers old new items (place_of w (half items d) y) (rest_of w (half items d) y) None next (step.Event e) → GoesOn w d older new (events ++ event.Mux e ∷ []) items y
 event_goes w d older old new events items y e next o (waits same) a = absurd a
 event_goes w d older old new events items y e next o (refuses place r same) a = absurd a
@@ -167,7 +167,7 @@ event_goes w d older old new events items y e next o (applies ready f fs some ok
       ap (λ n. (settled w d (Got n (flip f).key f.body ∷ items) y).items) at ∙ settled_got w d items y f fs o.settling ready some o.runs ok,
     )
 
-pub event_step : (w : Ways) (d older : ℕ) (old new : EndValue) (events : List EndEvent) (items : List Item) (y : Half) (e : MuxEvent) → IsOnWay w d older old events items y
+pub event_step : (w : SideTerms) (d older : ℕ) (old new : EndValue) (events : List EndEvent) (items : List Item) (y : RunSide) (e : MuxEvent) → IsOnWay w d older old events items y
     → ((items : List Item) (at : ℕ) (rest : List ℕ) → MuxStands old items at rest → StepAnswers old new items at rest (ended items) (next_of old.version old.nonce items at rest) (step.Event e))
     → GoesOn w d older new (events ++ event.Mux e ∷ []) items y
 event_step w d older old new events items y e o answers =
@@ -179,14 +179,14 @@ event_step w d older old new events items y e o answers =
     (terms_step old new items at rest (ended items) w.version w.own (step.Event e) o.stands.version o.stands.nonce a))
 
 -- a step that found nothing whole
-short_stays : (w : Ways) (d : ℕ) (old new : EndValue) (items : List Item) (y : Half) (at : ℕ) (rest : List ℕ) (next : Next) → Coming w d items y next
+short_stays : (w : SideTerms) (d : ℕ) (old new : EndValue) (items : List Item) (y : RunSide) (at : ℕ) (rest : List ℕ) (next : Next) → Coming w d items y next
     → StepAnswers old new items at rest None next step.Short → (new ≡ old) × ((settled w d items y).items ≡ items)
 short_stays w d old new items y at rest next (waits same) a = (a, same)
 short_stays w d old new items y at rest next (greets unready whole differ) a = absurd a
 short_stays w d old new items y at rest next (applies ready f fs some ok) a = absurd a
 short_stays w d old new items y at rest next (refuses place r same) a = absurd a
 
-pub short_step : (w : Ways) (d older : ℕ) (old new : EndValue) (events : List EndEvent) (items : List Item) (y : Half) → IsOnWay w d older old events items y
+pub short_step : (w : SideTerms) (d older : ℕ) (old new : EndValue) (events : List EndEvent) (items : List Item) (y : RunSide) → IsOnWay w d older old events items y
     → ((items : List Item) (at : ℕ) (rest : List ℕ) → MuxStands old items at rest → StepAnswers old new items at rest (ended items) (next_of old.version old.nonce items at rest) step.Short)
     → IsSettled w older new events (settled w d items y) y
 short_step w d older old new events items y o answers =
@@ -201,7 +201,7 @@ short_step w d older old new events items y o answers =
     (record { stands = subst (λ end. HalfStands w end (half items d) y) (sym both.0) o.stands; sayable = o.settling.sayable; events_are = o.events_are })
 
 -- a step that refused a frame
-ended_stops : (w : Ways) (d older : ℕ) (old new : EndValue) (events : List EndEvent) (items : List Item) (y : Half) (c : Cause) (next : Next) → IsOnWay w d older old events items y → Coming w d items y next
+ended_stops : (w : SideTerms) (d older : ℕ) (old new : EndValue) (events : List EndEvent) (items : List Item) (y : RunSide) (c : Cause) (next : Next) → IsOnWay w d older old events items y → Coming w d items y next
     → StepAnswers old new items (place_of w (half items d) y) (rest_of w (half items d) y) None next (step.Ended c) → IsSettled w older new (events ++ event.Ended c ∷ []) (settled w d items y) y
 ended_stops w d older old new events items y c next o (waits same) a = absurd a
 ended_stops w d older old new events items y c next o (greets unready whole differ) a = absurd a
@@ -215,7 +215,7 @@ ended_stops w d older old new events items y c next o (refuses place r is) a =
       events_are = ap (λ es. es ++ event.Ended c ∷ []) o.events_are ∙ sym (events_more v older (End c) items o.newer);
     })
 
-pub ended_step : (w : Ways) (d older : ℕ) (old new : EndValue) (events : List EndEvent) (items : List Item) (y : Half) (c : Cause) → IsOnWay w d older old events items y
+pub ended_step : (w : SideTerms) (d older : ℕ) (old new : EndValue) (events : List EndEvent) (items : List Item) (y : RunSide) (c : Cause) → IsOnWay w d older old events items y
     → ((items : List Item) (at : ℕ) (rest : List ℕ) → MuxStands old items at rest → StepAnswers old new items at rest (ended items) (next_of old.version old.nonce items at rest) (step.Ended c))
     → IsSettled w older new (events ++ event.Ended c ∷ []) (settled w d items y) y
 ended_step w d older old new events items y c o answers =
@@ -228,20 +228,20 @@ ended_step w d older old new events items y c o answers =
 
 -- the loop
 
-pub going_on : (w : Ways) (d older : ℕ) (old new : EndValue) (events events' : List EndEvent) (items : List Item) (y : Half) (e : MuxEvent) → GoesOn w d older old events items y
+pub going_on : (w : SideTerms) (d older : ℕ) (old new : EndValue) (events events' : List EndEvent) (items : List Item) (y : RunSide) (e : MuxEvent) → GoesOn w d older old events items y
     → ((items : List Item) (at : ℕ) (rest : List ℕ) → MuxStands old items at rest → StepAnswers old new items at rest (ended items) (next_of old.version old.nonce items at rest) (step.Event e))
     → events' ≡ events ++ event.Mux e ∷ [] → GoesOn w d older new events' items y
 going_on w d older old new events events' items y e g answers is =
     let n = event_step w d older old new events g.0 y e g.1 answers in
     (n.0, subst (λ es. IsOnWay w d older new es n.0 y) (sym is) n.1, n.2 ∙ g.2)
 
-pub going_short : (w : Ways) (d older : ℕ) (old new : EndValue) (events : List EndEvent) (items : List Item) (y : Half) → GoesOn w d older old events items y
+pub going_short : (w : SideTerms) (d older : ℕ) (old new : EndValue) (events : List EndEvent) (items : List Item) (y : RunSide) → GoesOn w d older old events items y
     → ((items : List Item) (at : ℕ) (rest : List ℕ) → MuxStands old items at rest → StepAnswers old new items at rest (ended items) (next_of old.version old.nonce items at rest) step.Short)
     → IsSettled w older new events (settled w d items y) y
 going_short w d older old new events items y g answers =
     subst (λ now. IsSettled w older new events (half now d) y) g.2 (short_step w d older old new events g.0 y g.1 answers)
 
-pub going_ended : (w : Ways) (d older : ℕ) (old new : EndValue) (events events' : List EndEvent) (items : List Item) (y : Half) (c : Cause) → GoesOn w d older old events items y
+pub going_ended : (w : SideTerms) (d older : ℕ) (old new : EndValue) (events events' : List EndEvent) (items : List Item) (y : RunSide) (c : Cause) → GoesOn w d older old events items y
     → ((items : List Item) (at : ℕ) (rest : List ℕ) → MuxStands old items at rest → StepAnswers old new items at rest (ended items) (next_of old.version old.nonce items at rest) (step.Ended c))
     → events' ≡ events ++ event.Ended c ∷ [] → IsSettled w older new events' (settled w d items y) y
 going_ended w d older old new events events' items y c g answers is =

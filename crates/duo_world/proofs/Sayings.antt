@@ -14,30 +14,31 @@ use Rattle.mux_items.specs.Bodies.{FrameBody, Offer, OfferAccepted, Content, Con
 use Rattle.mux_items.specs.Items.{Item, Hello, DidOffer, DidAccept, DidWrite, DidRead, DidComplete, DidTerminate, Got, Rejected, End, is_running, greeting, party_of}
 use Rattle.mux_items.specs.Kept.{keys, is_known}
 use Rattle.mux_items.specs.Lists.{unread, is_live}
-use Rattle.mux_items.specs.Due.{pieces_in, piece_size, content_frames, newly_emitted, completes, terminates, due_on, written_window, acknowledgement, due, sent}
+use Rattle.mux_items.specs.Limits.{piece_size}
+use Rattle.mux_items.specs.Due.{pieces_in, content_frames, newly_emitted, completes, terminates, due_on, written_window, acknowledgement, due, sent}
 use Rattle.mux_items.specs.Parties.{party_by}
 use Rattle.mux_items.specs.Refusals.{is_greeted, is_ready}
 use Rattle.mux_items.proofs.Keys.{same_key_true}
-use Rattle.mux_run.specs.Run.{Ways, turned}
+use Rattle.mux_run.specs.Run.{SideTerms, turned}
 use Rattle.mux_end.proofs.Fits.{fits_offer, fits_accepted, fits_content, fits_processed}
 use Rattle.duo_world.specs.Sayable.{IsSayableKey, IsSayableParty, IsSayable, AreSayable}
 use Rattle.duo_world.specs.Holding.{HaveNonces}
 use Rattle.duo_world.proofs.Sides.{other_parity}
 
 -- a frame of a side has a spelling, and its channel is told by its id
-pub record IsSaid (w : Ways) (f : ChannelFrame) : Type 0 where
+pub record IsSaid (w : SideTerms) (f : ChannelFrame) : Type 0 where
   pub fits : fits w.version (frame_of w.version f) ≡ true
   pub key : IsSayableKey w f.key
 
-abbrev pub AreSaid : Ways → List ChannelFrame → Type 0
+abbrev pub AreSaid : SideTerms → List ChannelFrame → Type 0
 AreSaid w [] = Unit {0}
 AreSaid w (f ∷ fs) = IsSaid w f × AreSaid w fs
 
-pub said-append : (w : Ways) (fs gs : List ChannelFrame) → AreSaid w fs → AreSaid w gs → AreSaid w (fs ++ gs)
+pub said-append : (w : SideTerms) (fs gs : List ChannelFrame) → AreSaid w fs → AreSaid w gs → AreSaid w (fs ++ gs)
 said-append w [] gs a b = b
 said-append w (f ∷ fs) gs a b = (a.0, said-append w fs gs a.1 b)
 
-pub said-back : (w : Ways) (fs gs : List ChannelFrame) → AreSaid w (fs ++ gs) → AreSaid w gs
+pub said-back : (w : SideTerms) (fs gs : List ChannelFrame) → AreSaid w (fs ++ gs) → AreSaid w gs
 said-back w [] gs a = a
 said-back w (f ∷ fs) gs a = said-back w fs gs a.1
 
@@ -60,7 +61,7 @@ termination_fits version.One c id = two_hold _ _ id refl
 termination_fits version.Two c id = two_hold _ _ id refl
 termination_fits version.Three c id = two_hold _ _ id (side_fits c.own)
 
-pieces_said : (w : Ways) (c : ChannelKey) (turns : ℕ) (bytes : List ℕ) → IsSayableKey w c → AreSaid w (map (λ piece. frame_on c (Content piece)) (pieces_in turns bytes))
+pieces_said : (w : SideTerms) (c : ChannelKey) (turns : ℕ) (bytes : List ℕ) → IsSayableKey w c → AreSaid w (map (λ piece. frame_on c (Content piece)) (pieces_in turns bytes))
 pieces_said w c zero bytes s = tt
 pieces_said w c (suc turns) bytes s = elim (cases_Bool (is_empty bytes)) [
   | inl e ↦ rw e tt
@@ -70,11 +71,11 @@ pieces_said w c (suc turns) bytes s = elim (cases_Bool (is_empty bytes)) [
   )
 ]
 
-if_said : (w : Ways) (b : Bool) (f : ChannelFrame) → IsSaid w f → AreSaid w (if b then f ∷ [] else [])
+if_said : (w : SideTerms) (b : Bool) (f : ChannelFrame) → IsSaid w f → AreSaid w (if b then f ∷ [] else [])
 if_said w true f s = (s, tt)
 if_said w false f s = tt
 
-due_on_said : (w : Ways) (c : ChannelKey) (first : List ChannelFrame) (item : Item) (items : List Item) → IsSayableKey w c → AreSaid w first → AreSaid w (due_on w.version c first item items)
+due_on_said : (w : SideTerms) (c : ChannelKey) (first : List ChannelFrame) (item : Item) (items : List Item) → IsSayableKey w c → AreSaid w first → AreSaid w (due_on w.version c first item items)
 due_on_said w c first item items s f =
     let v = w.version in
     let bytes = newly_emitted v c item items in
@@ -86,16 +87,16 @@ due_on_said w c first item items s f =
     (if_said w (completes v c item items) (frame_on c ContentWritingCompleted) (record { fits = completion_fits v c s.fits; key = s })))
     (if_said w (terminates v c item items) (frame_on c ChannelTerminated) (record { fits = termination_fits v c s.fits; key = s }))
 
-if_none_said : (w : Ways) (b : Bool) (fs : List ChannelFrame) → (b ≡ false → AreSaid w fs) → AreSaid w (if b then [] else fs)
+if_none_said : (w : SideTerms) (b : Bool) (fs : List ChannelFrame) → (b ≡ false → AreSaid w fs) → AreSaid w (if b then [] else fs)
 if_none_said w true fs s = tt
 if_none_said w false fs s = s refl
 
-acknowledgement_said : (w : Ways) (c : ChannelKey) (count : ℕ) (items : List Item) → IsSayableKey w c → count < 0x8000000000000000 → AreSaid w (acknowledgement w.version c count items)
+acknowledgement_said : (w : SideTerms) (c : ChannelKey) (count : ℕ) (items : List Item) → IsSayableKey w c → count < 0x8000000000000000 → AreSaid w (acknowledgement w.version c count items)
 acknowledgement_said w c count items s small =
     if_none_said w (is_one w.version) _ (λ two. if_none_said w (count == 0) _ (λ some.
     if_said w (is_running items && is_live w.version c items) (frame_on c (ContentProcessed count)) (record { fits = fits_processed w.version c count s.fits two small; key = s })))
 
-due_said : (w : Ways) (item : Item) (items : List Item) → IsSayable w item → AreSaid w (due w.version item items)
+due_said : (w : SideTerms) (item : Item) (items : List Item) → IsSayable w item → AreSaid w (due w.version item items)
 due_said w (Hello party) items s = tt
 due_said w (DidOffer c name size) items s =
     due_on_said w c (frame_on c (Offer name (written_window w.version size)) ∷ []) (DidOffer c name size) items s.key_is
@@ -112,13 +113,13 @@ due_said w (Rejected place c body) items s = (record { fits = termination_fits w
 due_said w (End cause) items s = tt
 
 -- each frame that was sent has a spelling
-pub sent_said : (w : Ways) (items : List Item) → AreSayable w items → AreSaid w (sent w.version items)
+pub sent_said : (w : SideTerms) (items : List Item) → AreSayable w items → AreSaid w (sent w.version items)
 sent_said w [] s = tt
 sent_said w (item ∷ items) s = said-append w (sent w.version items) (due w.version item items) (sent_said w items s.1) (due_said w item items s.0)
 
 -- the handshake that was applied
 
-told : (w : Ways) (items : List Item) → AreSayable w items → is_greeted (greeting items) ≡ true → IsSayableParty w (party_of items)
+told : (w : SideTerms) (items : List Item) → AreSayable w items → is_greeted (greeting items) ≡ true → IsSayableParty w (party_of items)
 told w [] s e = absurd cc
 told w (Hello party ∷ items) s e = s.0
 told w (DidOffer key name size ∷ items) s e = told w items s.1 e
@@ -132,7 +133,7 @@ told w (Rejected place key body ∷ items) s e = told w items s.1 e
 told w (End cause ∷ items) s e = told w items s.1 e
 
 -- an end of version 1 or 2 that is ready has its party by the nonces
-pub ready_party : (w : Ways) (items : List Item) → AreSayable w items → is_ready w.version items ≡ true → is_three w.version ≡ false → IsSayableParty w (party_of items)
+pub ready_party : (w : SideTerms) (items : List Item) → AreSayable w items → is_ready w.version items ≡ true → is_three w.version ≡ false → IsSayableParty w (party_of items)
 ready_party w items s ready two = told w items s (ap (λ b. b || is_greeted (greeting items)) (sym two) ∙ ready)
 
 -- a channel of one side is the other's too
@@ -141,11 +142,11 @@ not_not : (b : Bool) → not (not b) ≡ b
 not_not true = refl
 not_not false = refl
 
-turned_side : (w : Ways) (c : ChannelKey) → HaveNonces w → bytes_eq w.own w.peer ≡ false → IsSayableKey (turned w) c → is_three w.version ≡ false → not c.own ≡ has_parity (party_by w.own w.peer) c.id
+turned_side : (w : SideTerms) (c : ChannelKey) → HaveNonces w → bytes_eq w.own w.peer ≡ false → IsSayableKey (turned w) c → is_three w.version ≡ false → not c.own ≡ has_parity (party_by w.own w.peer) c.id
 turned_side w c n differ s two =
     ap not (s.side two) ∙ sym (other_parity w.own w.peer c.id (n.own ∙ sym n.peer) differ)
 
-pub turned_key : (w : Ways) (c : ChannelKey) → HaveNonces w → (is_three w.version ≡ false → bytes_eq w.own w.peer ≡ false) → IsSayableKey (turned w) c → IsSayableKey w (other_key c)
+pub turned_key : (w : SideTerms) (c : ChannelKey) → HaveNonces w → (is_three w.version ≡ false → bytes_eq w.own w.peer ≡ false) → IsSayableKey (turned w) c → IsSayableKey w (other_key c)
 turned_key w c n differ s = record { fits = s.fits; side = λ two. turned_side w c n (differ two) s two }
 
 -- a frame is taken for what it is at the other end
@@ -167,17 +168,17 @@ taken_body v party c ContentWritingCompleted e = ap (λ own. record { key = reco
 taken_body v party c ChannelTerminated e = ap (λ own. record { key = record { id = c.id; own = own }; body = ChannelTerminated }) e
 taken_body v party c (ContentProcessed count) e = ap (λ own. record { key = record { id = c.id; own = own }; body = ContentProcessed count }) e
 
-pub taken_flip : (w : Ways) (party : Party) (f : ChannelFrame) → HaveNonces w → (is_three w.version ≡ false → IsSayableParty w party) → IsSayableKey (turned w) f.key → taken_frame party (frame_of w.version f) ≡ flip f
+pub taken_flip : (w : SideTerms) (party : Party) (f : ChannelFrame) → HaveNonces w → (is_three w.version ≡ false → IsSayableParty w party) → IsSayableKey (turned w) f.key → taken_frame party (frame_of w.version f) ≡ flip f
 taken_flip w party f n p s =
     taken_body w.version party f.key f.body
     (taken_side w.version party f.key (λ two. turned_side w f.key n (p two).differ s two ∙ ap (λ party. has_parity party f.key.id) (sym (p two).party_is)))
 
 -- a known channel is one that some item names
-abbrev AreSayableKeys : Ways → List ChannelKey → Type 0
+abbrev AreSayableKeys : SideTerms → List ChannelKey → Type 0
 AreSayableKeys w [] = Unit {0}
 AreSayableKeys w (c ∷ cs) = IsSayableKey w c × AreSayableKeys w cs
 
-keys_sayable : (w : Ways) (items : List Item) → AreSayable w items → AreSayableKeys w (keys items)
+keys_sayable : (w : SideTerms) (items : List Item) → AreSayable w items → AreSayableKeys w (keys items)
 keys_sayable w [] s = tt
 keys_sayable w (Hello party ∷ items) s = keys_sayable w items s.1
 keys_sayable w (DidOffer key name size ∷ items) s = (s.0.key_is, keys_sayable w items s.1)
@@ -195,12 +196,12 @@ keys_sayable w (Got place key (ContentProcessed count) ∷ items) s = keys_sayab
 keys_sayable w (Rejected place key body ∷ items) s = keys_sayable w items s.1
 keys_sayable w (End cause ∷ items) s = keys_sayable w items s.1
 
-any_sayable : (w : Ways) (c : ChannelKey) (cs : List ChannelKey) → AreSayableKeys w cs → list_any (same_key c) cs ≡ true → IsSayableKey w c
+any_sayable : (w : SideTerms) (c : ChannelKey) (cs : List ChannelKey) → AreSayableKeys w cs → list_any (same_key c) cs ≡ true → IsSayableKey w c
 any_sayable w c [] s e = absurd cc
 any_sayable w c (d ∷ ds) s e = elim (cases_Bool (same_key c d)) [
   | inl h ↦ subst (IsSayableKey w) (sym (same_key_true c d h)) s.0
   | inr h ↦ any_sayable w c ds s.1 (sym (ap (λ b. b || list_any (same_key c) ds) h) ∙ e)
 ]
 
-pub known_sayable : (w : Ways) (c : ChannelKey) (items : List Item) → AreSayable w items → is_known c items ≡ true → IsSayableKey w c
+pub known_sayable : (w : SideTerms) (c : ChannelKey) (items : List Item) → AreSayable w items → is_known c items ≡ true → IsSayableKey w c
 known_sayable w c items s e = any_sayable w c (keys items) (keys_sayable w items s) e

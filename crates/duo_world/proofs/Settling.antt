@@ -18,7 +18,7 @@ use Rattle.mux_items.specs.Refusals.{is_ready, frame_refusal}
 use Rattle.mux_items.specs.Applying.{after_frame, place_at}
 use Rattle.mux_run.specs.Cuts.{IsCut}
 use Rattle.mux_run.specs.Plain.{IsPlainWay, IsPlainNext}
-use Rattle.mux_run.specs.Run.{Half, Ways, turned, out, greeting_size, greet, greeted, apply_frames, whole_frames, next_frames, place_after, settled}
+use Rattle.mux_run.specs.Run.{RunSide, SideTerms, turned, out, greeting_size, greet, greeted, apply_frames, whole_frames, next_frames, place_after, settled}
 use Rattle.mux_run.proofs.Fed.{ready_same}
 use Rattle.mux_run.proofs.Growing.{apply_frames_stopped, apply_frames_more, out-more}
 use Rattle.mux_run.proofs.Plain.{plain_next, plain_room, plain_more, plain_way, frame_got}
@@ -32,53 +32,53 @@ use Rattle.duo_world.proofs.Fronts.{front_none, front_some}
 
 -- an end that is ready, and one that waits for its peer's handshake
 
-pub place_ready : (w : Ways) (x y : Half) → is_ready w.version x.items ≡ true → place_of w x y ≡ place_after w (length (got x.items)) y
+pub place_ready : (w : SideTerms) (x y : RunSide) → is_ready w.version x.items ≡ true → place_of w x y ≡ place_after w (length (got x.items)) y
 place_ready w x y e = ap (λ b. if b then place_after w (length (got x.items)) y else 0) e
 
-pub place_unready : (w : Ways) (x y : Half) → is_ready w.version x.items ≡ false → place_of w x y ≡ 0
+pub place_unready : (w : SideTerms) (x y : RunSide) → is_ready w.version x.items ≡ false → place_of w x y ≡ 0
 place_unready w x y e = ap (λ b. if b then place_after w (length (got x.items)) y else 0) e
 
 -- what settles after the handshake
-abbrev pub settled_from : Ways → (d : ℕ) → List Item → Half → List Item
+abbrev pub settled_from : SideTerms → (d : ℕ) → List Item → RunSide → List Item
 settled_from w d after y = if is_ready w.version after then apply_frames w.version (place_after w (length (got after)) y) (next_frames w d (length (got after)) y) after else after
 
 skipped : {A : Type 0} (r b n : Bool) (x y : A) → b ≡ true → (if r && not b && n then x else y) ≡ y
 skipped true b n x y e = ap (λ b. if not b && n then x else y) e
 skipped false b n x y e = refl
 
-pub greeted_ready : (w : Ways) (d : ℕ) (items : List Item) → is_ready w.version items ≡ true → greeted w d items ≡ items
+pub greeted_ready : (w : SideTerms) (d : ℕ) (items : List Item) → is_ready w.version items ≡ true → greeted w d items ≡ items
 greeted_ready w d items e = skipped (is_running items) (is_ready w.version items) (nat_le (greeting_size w) d) (greet w ∷ items) items e
 
-greeted_stopped : (w : Ways) (d : ℕ) (items : List Item) → is_running items ≡ false → greeted w d items ≡ items
+greeted_stopped : (w : SideTerms) (d : ℕ) (items : List Item) → is_running items ≡ false → greeted w d items ≡ items
 greeted_stopped w d items e = ap (λ r. if r && not (is_ready w.version items) && nat_le (greeting_size w) d then greet w ∷ items else items) e
 
 three_are : (r b n : Bool) → r ≡ true → b ≡ false → (r && not b && n) ≡ n
 three_are r b n p q = cc
 
-greeted_by : (w : Ways) (d : ℕ) (items : List Item) → is_running items ≡ true → is_ready w.version items ≡ false → greeted w d items ≡ (if nat_le (greeting_size w) d then greet w ∷ items else items)
+greeted_by : (w : SideTerms) (d : ℕ) (items : List Item) → is_running items ≡ true → is_ready w.version items ≡ false → greeted w d items ≡ (if nat_le (greeting_size w) d then greet w ∷ items else items)
 greeted_by w d items runs unready = ap (λ b. if b then greet w ∷ items else items) (three_are (is_running items) (is_ready w.version items) (nat_le (greeting_size w) d) runs unready)
 
-greeted_whole : (w : Ways) (d : ℕ) (items : List Item) → is_running items ≡ true → is_ready w.version items ≡ false → greeting_size w ≤ d → greeted w d items ≡ greet w ∷ items
+greeted_whole : (w : SideTerms) (d : ℕ) (items : List Item) → is_running items ≡ true → is_ready w.version items ≡ false → greeting_size w ≤ d → greeted w d items ≡ greet w ∷ items
 greeted_whole w d items runs unready h = greeted_by w d items runs unready ∙ ap (λ b. if b then greet w ∷ items else items) (le-leb (greeting_size w) d h)
 
-greeted_short : (w : Ways) (d : ℕ) (items : List Item) → is_running items ≡ true → is_ready w.version items ≡ false → d < greeting_size w → greeted w d items ≡ items
+greeted_short : (w : SideTerms) (d : ℕ) (items : List Item) → is_running items ≡ true → is_ready w.version items ≡ false → d < greeting_size w → greeted w d items ≡ items
 greeted_short w d items runs unready h = greeted_by w d items runs unready ∙ ap (λ b. if b then greet w ∷ items else items) (lt-leb (greeting_size w) d h)
 
-unready_stays : (w : Ways) (d : ℕ) (items : List Item) (y : Half) → is_ready w.version items ≡ false → settled_from w d items y ≡ items
+unready_stays : (w : SideTerms) (d : ℕ) (items : List Item) (y : RunSide) → is_ready w.version items ≡ false → settled_from w d items y ≡ items
 unready_stays w d items y e = ap (λ b. if b then apply_frames w.version (place_after w (length (got items)) y) (next_frames w d (length (got items)) y) items else items) e
 
-pub settled_ready : (w : Ways) (d : ℕ) (items : List Item) (y : Half) → is_ready w.version items ≡ true
+pub settled_ready : (w : SideTerms) (d : ℕ) (items : List Item) (y : RunSide) → is_ready w.version items ≡ true
     → (settled w d items y).items ≡ apply_frames w.version (place_after w (length (got items)) y) (next_frames w d (length (got items)) y) items
 settled_ready w d items y e =
     ap (λ after. settled_from w d after y) (greeted_ready w d items e)
     ∙ ap (λ b. if b then apply_frames w.version (place_after w (length (got items)) y) (next_frames w d (length (got items)) y) items else items) e
 
 -- an end that waits for more of the handshake stays as it is
-pub settled_short : (w : Ways) (d : ℕ) (items : List Item) (y : Half) → is_running items ≡ true → is_ready w.version items ≡ false → d < greeting_size w → (settled w d items y).items ≡ items
+pub settled_short : (w : SideTerms) (d : ℕ) (items : List Item) (y : RunSide) → is_running items ≡ true → is_ready w.version items ≡ false → d < greeting_size w → (settled w d items y).items ≡ items
 settled_short w d items y runs unready h = ap (λ after. settled_from w d after y) (greeted_short w d items runs unready h) ∙ unready_stays w d items y unready
 
 -- nonces that are the same end it
-pub settled_spoilt : (w : Ways) (d : ℕ) (items : List Item) (y : Half) → is_running items ≡ true → is_ready w.version items ≡ false → greeting_size w ≤ d → bytes_eq w.own w.peer ≡ true
+pub settled_spoilt : (w : SideTerms) (d : ℕ) (items : List Item) (y : RunSide) → is_running items ≡ true → is_ready w.version items ≡ false → greeting_size w ≤ d → bytes_eq w.own w.peer ≡ true
     → (settled w d items y).items ≡ End (cause.Refused (place_at (greeting_size w - length w.peer)) reason.SameNonce) ∷ items
 settled_spoilt w d items y runs unready h same =
     let item = End (cause.Refused (place_at (greeting_size w - length w.peer)) reason.SameNonce) in
@@ -87,17 +87,17 @@ settled_spoilt w d items y runs unready h same =
 
 -- one that greets is then ready
 
-pub hello_ready : (w : Ways) (items : List Item) → is_ready w.version (Hello (party_by w.own w.peer) ∷ items) ≡ true
+pub hello_ready : (w : SideTerms) (items : List Item) → is_ready w.version (Hello (party_by w.own w.peer) ∷ items) ≡ true
 hello_ready w items = or_right (is_three w.version) true refl
 
-pub settled_greeted : (w : Ways) (d : ℕ) (items : List Item) (y : Half) → is_running items ≡ true → is_ready w.version items ≡ false → greeting_size w ≤ d → bytes_eq w.own w.peer ≡ false
+pub settled_greeted : (w : SideTerms) (d : ℕ) (items : List Item) (y : RunSide) → is_running items ≡ true → is_ready w.version items ≡ false → greeting_size w ≤ d → bytes_eq w.own w.peer ≡ false
     → (settled w d (Hello (party_by w.own w.peer) ∷ items) y).items ≡ (settled w d items y).items
 settled_greeted w d items y runs unready h differ =
     let item = Hello (party_by w.own w.peer) in
     let is : greet w ≡ item = ap (λ b. if b then End (cause.Refused (place_at (greeting_size w - length w.peer)) reason.SameNonce) else item) differ in
     ap (λ after. settled_from w d after y) (greeted_ready w d (item ∷ items) (hello_ready w items) ∙ sym (greeted_whole w d items runs unready h ∙ ap (λ item. item ∷ items) is))
 
-pub settling_greeted : (w : Ways) (d : ℕ) (items : List Item) (y : Half) → IsSettling w d items y → is_ready w.version items ≡ false → greeting_size w ≤ d → bytes_eq w.own w.peer ≡ false
+pub settling_greeted : (w : SideTerms) (d : ℕ) (items : List Item) (y : RunSide) → IsSettling w d items y → is_ready w.version items ≡ false → greeting_size w ≤ d → bytes_eq w.own w.peer ≡ false
     → IsSettling w d (Hello (party_by w.own w.peer) ∷ items) y
 settling_greeted w d items y s unready h differ = record {
   nonces = s.nonces;
@@ -109,17 +109,17 @@ settling_greeted w d items y s unready h differ = record {
 
 -- the bytes that a ready end didn't apply
 
-rest_cut : (w : Ways) (d : ℕ) (items : List Item) (y : Half) → IsSettling w d items y → is_ready w.version items ≡ true
+rest_cut : (w : SideTerms) (d : ℕ) (items : List Item) (y : RunSide) → IsSettling w d items y → is_ready w.version items ≡ true
     → IsCut w.version (rest_of w (half items d) y) (next_frames w d (length (got items)) y) (drop (length (whole_frames w.version (d - greeting_size w) (sent w.version y.items))) (sent w.version y.items))
 rest_cut w d items y s ready =
     subst (λ n. IsCut w.version (drop n (take d (out w.version w.peer y.items))) (next_frames w d (length (got items)) y) (drop (length (whole_frames w.version (d - greeting_size w) (sent w.version y.items))) (sent w.version y.items)))
     (sym (place_ready w (half items d) y ready)) (stream_cut w d (length (got items)) y (s.lie.greeted ready) s.lie.within)
 
-peer_said : (w : Ways) (d : ℕ) (items : List Item) (y : Half) → IsSettling w d items y → AreSaid (turned w) (sent w.version y.items)
+peer_said : (w : SideTerms) (d : ℕ) (items : List Item) (y : RunSide) → IsSettling w d items y → AreSaid (turned w) (sent w.version y.items)
 peer_said w d items y s = sent_said (turned w) y.items s.sayable_peer
 
 -- where all is applied that is whole, what is left is short
-pub front_short : (w : Ways) (d : ℕ) (items : List Item) (y : Half) → IsSettling w d items y → is_ready w.version items ≡ true → next_frames w d (length (got items)) y ≡ [] → front w.version (rest_of w (half items d) y) ≡ Short
+pub front_short : (w : SideTerms) (d : ℕ) (items : List Item) (y : RunSide) → IsSettling w d items y → is_ready w.version items ≡ true → next_frames w d (length (got items)) y ≡ [] → front w.version (rest_of w (half items d) y) ≡ Short
 front_short w d items y s ready e =
     let frames = sent w.version y.items in
     let whole = whole_frames w.version (d - greeting_size w) frames in
@@ -128,7 +128,7 @@ front_short w d items y s ready e =
     front_none (turned w) (rest_of w (half items d) y) others said (subst (λ fs. IsCut w.version (rest_of w (half items d) y) fs others) e (rest_cut w d items y s ready))
 
 -- the frames after those that were applied
-behind : (w : Ways) (d : ℕ) (items : List Item) (y : Half) (f : ChannelFrame) (fs : List ChannelFrame) → IsSettling w d items y → next_frames w d (length (got items)) y ≡ f ∷ fs
+behind : (w : SideTerms) (d : ℕ) (items : List Item) (y : RunSide) (f : ChannelFrame) (fs : List ChannelFrame) → IsSettling w d items y → next_frames w d (length (got items)) y ≡ f ∷ fs
     → (more : List ChannelFrame) × (drop (length (got items)) (sent w.version y.items) ≡ f ∷ more)
 behind w d items y f fs s e =
     let frames = sent w.version y.items in
@@ -137,7 +137,7 @@ behind w d items y f fs s e =
     let tail = drop (length whole) frames in
     (fs ++ tail, ap (drop k) (sym (whole_front w.version (d - greeting_size w) frames)) ∙ (drop-append-le k whole tail s.lie.within ∙ ap (λ gs. gs ++ tail) e))
 
-pub next_said : (w : Ways) (d : ℕ) (items : List Item) (y : Half) (f : ChannelFrame) (fs : List ChannelFrame) → IsSettling w d items y → next_frames w d (length (got items)) y ≡ f ∷ fs → IsSaid (turned w) f
+pub next_said : (w : SideTerms) (d : ℕ) (items : List Item) (y : RunSide) (f : ChannelFrame) (fs : List ChannelFrame) → IsSettling w d items y → next_frames w d (length (got items)) y ≡ f ∷ fs → IsSaid (turned w) f
 next_said w d items y f fs s e =
     let frames = sent w.version y.items in
     let k = length (got items) in
@@ -146,7 +146,7 @@ next_said w d items y f fs s e =
     (said-back (turned w) (take k frames) (f ∷ b.0) (subst (AreSaid (turned w)) (sym all) (peer_said w d items y s))).0
 
 -- the next frame stands at the front
-pub front_frame : (w : Ways) (d : ℕ) (items : List Item) (y : Half) (f : ChannelFrame) (fs : List ChannelFrame) → IsSettling w d items y → is_ready w.version items ≡ true → next_frames w d (length (got items)) y ≡ f ∷ fs
+pub front_frame : (w : SideTerms) (d : ℕ) (items : List Item) (y : RunSide) (f : ChannelFrame) (fs : List ChannelFrame) → IsSettling w d items y → is_ready w.version items ≡ true → next_frames w d (length (got items)) y ≡ f ∷ fs
     → front w.version (rest_of w (half items d) y) ≡ Whole (frame_of w.version f) (length (frame_text w.version f))
 front_frame w d items y f fs s ready e =
     let frames = sent w.version y.items in
@@ -155,15 +155,15 @@ front_frame w d items y f fs s ready e =
     (subst (λ gs. IsCut w.version (rest_of w (half items d) y) gs others) e (rest_cut w d items y s ready))
 
 -- and is taken for what it is
-pub next_taken_as : (w : Ways) (d : ℕ) (items : List Item) (y : Half) (f : ChannelFrame) (fs : List ChannelFrame) → IsSettling w d items y → is_ready w.version items ≡ true → next_frames w d (length (got items)) y ≡ f ∷ fs
+pub next_taken_as : (w : SideTerms) (d : ℕ) (items : List Item) (y : RunSide) (f : ChannelFrame) (fs : List ChannelFrame) → IsSettling w d items y → is_ready w.version items ≡ true → next_frames w d (length (got items)) y ≡ f ∷ fs
     → taken_frame (party_of items) (frame_of w.version f) ≡ flip f
 next_taken_as w d items y f fs s ready e = taken_flip w (party_of items) f s.nonces (ready_party w items s.sayable ready) (next_said w d items y f fs s e).key
 
 -- the way with the next frames
-next_way : (w : Ways) (d : ℕ) (items : List Item) (y : Half) (f : ChannelFrame) (fs : List ChannelFrame) → IsSettling w d items y → next_frames w d (length (got items)) y ≡ f ∷ fs → IsPlainWay w.version items y.items (f ∷ fs)
+next_way : (w : SideTerms) (d : ℕ) (items : List Item) (y : RunSide) (f : ChannelFrame) (fs : List ChannelFrame) → IsSettling w d items y → next_frames w d (length (got items)) y ≡ f ∷ fs → IsPlainWay w.version items y.items (f ∷ fs)
 next_way w d items y f fs s e = subst (IsPlainWay w.version items y.items) e (plain_way w d items y s.way)
 
-pub next_plain : (w : Ways) (d : ℕ) (items : List Item) (y : Half) (f : ChannelFrame) (fs : List ChannelFrame) → IsSettling w d items y → next_frames w d (length (got items)) y ≡ f ∷ fs → IsPlainNext f.body items
+pub next_plain : (w : SideTerms) (d : ℕ) (items : List Item) (y : RunSide) (f : ChannelFrame) (fs : List ChannelFrame) → IsSettling w d items y → next_frames w d (length (got items)) y ≡ f ∷ fs → IsPlainNext f.body items
 next_plain w d items y f fs s e = plain_next w.version items y.items f fs (next_way w d items y f fs s e)
 
 any_way : (v : Version) (items peer : List Item) (fs : List ChannelFrame) → IsPlainWay v items peer fs → IsPlainWay v items peer []
@@ -173,7 +173,7 @@ one_more : (items : List Item) (f : ChannelFrame) → length (got items ++ f ∷
 one_more items f = length-append (got items) (f ∷ [])
 
 -- after the next frame was applied
-pub settling_got : (w : Ways) (d place : ℕ) (items : List Item) (y : Half) (f : ChannelFrame) (fs : List ChannelFrame) → IsSettling w d items y → is_ready w.version items ≡ true → next_frames w d (length (got items)) y ≡ f ∷ fs
+pub settling_got : (w : SideTerms) (d place : ℕ) (items : List Item) (y : RunSide) (f : ChannelFrame) (fs : List ChannelFrame) → IsSettling w d items y → is_ready w.version items ≡ true → next_frames w d (length (got items)) y ≡ f ∷ fs
     → IsSettling w d (Got place (flip f).key f.body ∷ items) y
 settling_got w d place items y f fs s ready e = record {
   nonces = s.nonces;
@@ -187,15 +187,15 @@ settling_got w d place items y f fs s ready e = record {
   sayable_peer = s.sayable_peer;
 }
 
-next_got : (w : Ways) (d : ℕ) (items : List Item) (y : Half) (f : ChannelFrame) (fs : List ChannelFrame) → next_frames w d (length (got items)) y ≡ f ∷ fs → next_frames w d (length (got items ++ flip f ∷ [])) y ≡ fs
+next_got : (w : SideTerms) (d : ℕ) (items : List Item) (y : RunSide) (f : ChannelFrame) (fs : List ChannelFrame) → next_frames w d (length (got items)) y ≡ f ∷ fs → next_frames w d (length (got items ++ flip f ∷ [])) y ≡ fs
 next_got w d items y f fs e = ap (λ k. next_frames w d k y) (one_more items (flip f)) ∙ next_frames_more w d (length (got items)) y f fs e
 
-place_got : (w : Ways) (d : ℕ) (items : List Item) (y : Half) (f : ChannelFrame) (fs : List ChannelFrame) → next_frames w d (length (got items)) y ≡ f ∷ fs
+place_got : (w : SideTerms) (d : ℕ) (items : List Item) (y : RunSide) (f : ChannelFrame) (fs : List ChannelFrame) → next_frames w d (length (got items)) y ≡ f ∷ fs
     → place_after w (length (got items ++ flip f ∷ [])) y ≡ place_after w (length (got items)) y + length (frame_text w.version f)
 place_got w d items y f fs e = ap (λ k. place_after w k y) (one_more items (flip f)) ∙ place_after_more w d (length (got items)) y f fs e
 
 -- what is applied from here on is what would have been applied from there on
-pub settled_got : (w : Ways) (d : ℕ) (items : List Item) (y : Half) (f : ChannelFrame) (fs : List ChannelFrame) → IsSettling w d items y → is_ready w.version items ≡ true → next_frames w d (length (got items)) y ≡ f ∷ fs → is_running items ≡ true
+pub settled_got : (w : SideTerms) (d : ℕ) (items : List Item) (y : RunSide) (f : ChannelFrame) (fs : List ChannelFrame) → IsSettling w d items y → is_ready w.version items ≡ true → next_frames w d (length (got items)) y ≡ f ∷ fs → is_running items ≡ true
     → frame_refusal w.version (flip f).key f.body items ≡ None
     → (settled w d (Got (place_after w (length (got items)) y) (flip f).key f.body ∷ items) y).items ≡ (settled w d items y).items
 settled_got w d items y f fs s ready e runs ok =
@@ -211,7 +211,7 @@ settled_got w d items y f fs s ready e runs ok =
     ∙ (ap (λ fs. apply_frames v place fs items) (sym e) ∙ sym (settled_ready w d items y ready))))))
 
 -- a refused frame is the last
-pub settled_refused : (w : Ways) (d : ℕ) (items : List Item) (y : Half) (f : ChannelFrame) (fs : List ChannelFrame) (reason : Reason) → IsSettling w d items y → is_ready w.version items ≡ true → next_frames w d (length (got items)) y ≡ f ∷ fs → is_running items ≡ true
+pub settled_refused : (w : SideTerms) (d : ℕ) (items : List Item) (y : RunSide) (f : ChannelFrame) (fs : List ChannelFrame) (reason : Reason) → IsSettling w d items y → is_ready w.version items ≡ true → next_frames w d (length (got items)) y ≡ f ∷ fs → is_running items ≡ true
     → frame_refusal w.version (flip f).key f.body items ≡ Some reason
     → (settled w d items y).items ≡ End (cause.Refused (place_at (place_after w (length (got items)) y)) reason) ∷ items
 settled_refused w d items y f fs reason s ready e runs refuses =
@@ -224,11 +224,11 @@ settled_refused w d items y f fs reason s ready e runs refuses =
     ∙ apply_frames_stopped v (place + length (frame_text v f)) fs (End (cause.Refused (place_at place) reason) ∷ items) refl)))
 
 -- where nothing is whole, nothing changes
-pub settled_none : (w : Ways) (d : ℕ) (items : List Item) (y : Half) → is_ready w.version items ≡ true → next_frames w d (length (got items)) y ≡ [] → (settled w d items y).items ≡ items
+pub settled_none : (w : SideTerms) (d : ℕ) (items : List Item) (y : RunSide) → is_ready w.version items ≡ true → next_frames w d (length (got items)) y ≡ [] → (settled w d items y).items ≡ items
 settled_none w d items y e none = settled_ready w d items y e ∙ ap (λ fs. apply_frames w.version (place_after w (length (got items)) y) fs items) none
 
 -- an end that doesn't run stays as it is
-pub settled_stopped : (w : Ways) (d : ℕ) (items : List Item) (y : Half) → is_running items ≡ false → (settled w d items y).items ≡ items
+pub settled_stopped : (w : SideTerms) (d : ℕ) (items : List Item) (y : RunSide) → is_running items ≡ false → (settled w d items y).items ≡ items
 settled_stopped w d items y stopped =
     ap (λ after. settled_from w d after y) (greeted_stopped w d items stopped)
     ∙ (ap (λ after. if is_ready w.version items then after else items) (apply_frames_stopped w.version (place_after w (length (got items)) y) (next_frames w d (length (got items)) y) items stopped)
@@ -239,7 +239,7 @@ settled_stopped w d items y stopped =
     either false x = refl
 
 -- an end that adds an item
-pub half_adds : (w : Ways) (old new : EndValue) (item : Item) (items : List Item) (d : ℕ) (y : Half) → HalfStands w old (half items d) y
+pub half_adds : (w : SideTerms) (old new : EndValue) (item : Item) (items : List Item) (d : ℕ) (y : RunSide) → HalfStands w old (half items d) y
     → MuxStands new (item ∷ items) (place_of w (half (item ∷ items) d) y) (rest_of w (half (item ∷ items) d) y)
     → new.output ≡ old.output ++ frame_texts w.version (due w.version item items) → new.version ≡ old.version → new.nonce ≡ old.nonce → HalfStands w new (half (item ∷ items) d) y
 half_adds w old new item items d y h stands output version nonce =
@@ -257,7 +257,7 @@ half_adds w old new item items d y h stands output version nonce =
     }
 
 -- an end that applied the next frame
-pub half_got : (w : Ways) (old new : EndValue) (items : List Item) (d : ℕ) (y : Half) (f : ChannelFrame) (fs : List ChannelFrame) → IsSettling w d items y → is_ready w.version items ≡ true → next_frames w d (length (got items)) y ≡ f ∷ fs → HalfStands w old (half items d) y
+pub half_got : (w : SideTerms) (old new : EndValue) (items : List Item) (d : ℕ) (y : RunSide) (f : ChannelFrame) (fs : List ChannelFrame) → IsSettling w d items y → is_ready w.version items ≡ true → next_frames w d (length (got items)) y ≡ f ∷ fs → HalfStands w old (half items d) y
     → MuxStands new (Got (place_of w (half items d) y) (flip f).key f.body ∷ items) (place_of w (half items d) y + length (frame_text w.version f)) (drop (length (frame_text w.version f)) (rest_of w (half items d) y))
     → new.output ≡ old.output ++ frame_texts w.version (due w.version (Got (place_of w (half items d) y) (flip f).key f.body) items) → new.version ≡ old.version → new.nonce ≡ old.nonce
     → HalfStands w new (half (Got (place_of w (half items d) y) (flip f).key f.body ∷ items) d) y
@@ -273,7 +273,7 @@ half_got w old new items d y f fs s ready e h stands output version nonce =
     output version nonce
 
 -- an end that greeted
-pub half_greeted : (w : Ways) (old new : EndValue) (items : List Item) (d : ℕ) (y : Half) → IsSettling w d items y → is_ready w.version items ≡ false → HalfStands w old (half items d) y
+pub half_greeted : (w : SideTerms) (old new : EndValue) (items : List Item) (d : ℕ) (y : RunSide) → IsSettling w d items y → is_ready w.version items ≡ false → HalfStands w old (half items d) y
     → MuxStands new (Hello (party_by w.own w.peer) ∷ items) (place_of w (half items d) y + greeting_size w) (drop (greeting_size w) (rest_of w (half items d) y))
     → new.output ≡ old.output ++ frame_texts w.version (due w.version (Hello (party_by w.own w.peer)) items) → new.version ≡ old.version → new.nonce ≡ old.nonce
     → HalfStands w new (half (Hello (party_by w.own w.peer) ∷ items) d) y
@@ -290,11 +290,11 @@ half_greeted w old new items d y s unready h stands output version nonce =
     output version nonce
 
 -- an item that neither greets nor applies a frame leaves the place and the rest
-place_same : (w : Ways) (d : ℕ) (before after : List Item) (y : Half) → got after ≡ got before → greeting after ≡ greeting before → place_of w (half after d) y ≡ place_of w (half before d) y
+place_same : (w : SideTerms) (d : ℕ) (before after : List Item) (y : RunSide) → got after ≡ got before → greeting after ≡ greeting before → place_of w (half after d) y ≡ place_of w (half before d) y
 place_same w d before after y same kept =
     ap (λ fs. if is_ready w.version after then place_after w (length fs) y else 0) same ∙ ap (λ b. if b then place_after w (length (got before)) y else 0) (ready_same w.version before after kept)
 
-pub half_item : (w : Ways) (old new : EndValue) (item : Item) (items : List Item) (d : ℕ) (y : Half) → got (item ∷ items) ≡ got items → greeting (item ∷ items) ≡ greeting items → HalfStands w old (half items d) y
+pub half_item : (w : SideTerms) (old new : EndValue) (item : Item) (items : List Item) (d : ℕ) (y : RunSide) → got (item ∷ items) ≡ got items → greeting (item ∷ items) ≡ greeting items → HalfStands w old (half items d) y
     → MuxStands new (item ∷ items) (place_of w (half items d) y) (rest_of w (half items d) y)
     → new.output ≡ old.output ++ frame_texts w.version (due w.version item items) → new.version ≡ old.version → new.nonce ≡ old.nonce → HalfStands w new (half (item ∷ items) d) y
 half_item w old new item items d y same kept h stands output version nonce =

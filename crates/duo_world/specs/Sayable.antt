@@ -7,10 +7,10 @@ use Rattle.mux_items.specs.declared.party.Party.{Party}
 use Rattle.mux_items.specs.Bodies.{has_parity, is_three}
 use Rattle.mux_items.specs.Items.{Item, Hello, DidOffer, DidAccept, DidWrite, DidRead, DidComplete, DidTerminate, Got, Rejected, End}
 use Rattle.mux_items.specs.Parties.{party_by}
-use Rattle.mux_run.specs.Run.{Ways}
+use Rattle.mux_run.specs.Run.{SideTerms}
 
 -- an id of the version's range; in versions 1 and 2, which write no channel source, a side's own ids have its party's parity
-pub record IsSayableKey (w : Ways) (key : ChannelKey) : Type 0 where
+pub record IsSayableKey (w : SideTerms) (key : ChannelKey) : Type 0 where
   pub fits : fits_id w.version key.id ≡ true
   pub side : is_three w.version ≡ false → key.own ≡ has_parity (party_by w.own w.peer) key.id
 
@@ -23,21 +23,21 @@ pub record IsSayableName (name : List ℕ) : Type 0 where
   pub utf8 : is_utf8 name ≡ true
   pub short : length name ≤ 1024
 
-pub record IsSayableOffer (w : Ways) (key : ChannelKey) (name : List ℕ) (size : ℕ) : Type 0 where
+pub record IsSayableOffer (w : SideTerms) (key : ChannelKey) (name : List ℕ) (size : ℕ) : Type 0 where
   pub key_is : IsSayableKey w key
   pub name_is : IsSayableName name
   pub size_is : IsSayableNumber size
 
-pub record IsSayableCount (w : Ways) (key : ChannelKey) (count : ℕ) : Type 0 where
+pub record IsSayableCount (w : SideTerms) (key : ChannelKey) (count : ℕ) : Type 0 where
   pub key_is : IsSayableKey w key
   pub count_is : IsSayableNumber count
 
 -- a handshake that was applied tells the party of two nonces that differ
-pub record IsSayableParty (w : Ways) (party : Party) : Type 0 where
+pub record IsSayableParty (w : SideTerms) (party : Party) : Type 0 where
   pub differ : bytes_eq w.own w.peer ≡ false
   pub party_is : party ≡ party_by w.own w.peer
 
-abbrev pub IsSayable : Ways → Item → Type 0
+abbrev pub IsSayable : SideTerms → Item → Type 0
 IsSayable w (Hello party) = IsSayableParty w party
 IsSayable w (DidOffer key name size) = IsSayableOffer w key name size
 IsSayable w (DidAccept key size) = IsSayableCount w key size
@@ -50,6 +50,6 @@ IsSayable w (Rejected place key body) = IsSayableKey w key
 IsSayable w (End cause) = Unit {0}
 
 -- the frames of these items of a side have spellings, and tell their channels
-abbrev pub AreSayable : Ways → List Item → Type 0
+abbrev pub AreSayable : SideTerms → List Item → Type 0
 AreSayable w [] = Unit {0}
 AreSayable w (item ∷ items) = IsSayable w item × AreSayable w items

@@ -7,7 +7,7 @@ ghost use Rattle.mux_end.specs.Tests.{is_running_state};
 ghost use Rattle.mux_items.specs.Items.{Item, is_running};
 ghost use Rattle.mux_run.specs.Answers.{answer_at};
 ghost use Rattle.mux_run.specs.Built.{is_built_call, is_built_step, is_offer_call, is_offer_step};
-ghost use Rattle.mux_run.specs.Run.{Half, Terms, Ways, World, settled, side_of};
+ghost use Rattle.mux_run.specs.Run.{RunSide, Terms, SideTerms, World, settled, side_of};
 ghost use Rattle.mux_run.specs.declared.steps.Side.{Side};
 ghost use Rattle.std.specs.Prelude.{◌≡◌, ℕ, List, [], OnOk, IfOk, None, true};
 
@@ -27,7 +27,7 @@ fn is_running(end: &MuxEnd) -> bool
 
 /// Applies at an end that runs what is whole of the bytes that it was given.
 fn settle(own: &mut MuxEnd, events: &mut EventList) -> Result<(), OutOfMemory>
-    ensures { (w : Ways) (delivered older : ℕ) (items : List Item) (y : Half) → IsOnWay w delivered older own.old events.old items y →
+    ensures { (w : SideTerms) (delivered older : ℕ) (items : List Item) (y : RunSide) → IsOnWay w delivered older own.old events.old items y →
         OnOk result (IsSettled w older own.new events.new (settled w delivered items y) y) }
 {
     'steps: loop {
@@ -57,7 +57,7 @@ fn refused(fault: CallFault) -> Result<Reply, OutOfMemory>
 fn make_call(alloc: Global, own: &mut MuxEnd, call: &Call) -> Result<Reply, OutOfMemory>
     requires built { is_built_call call.now ≡ true }
     requires free { is_offer_call call.now ≡ true → own.old.channel ≡ None }
-    ensures { (w : Ways) (x y : Half) → IsCallable w own.old x y → IfOk result (Calls w call.now own.new x y) }
+    ensures { (w : SideTerms) (x y : RunSide) → IsCallable w own.old x y → IfOk result (Calls w call.now own.new x y) }
 {
     match call {
         Call::Offer(name, window) => {
@@ -95,7 +95,7 @@ fn deliver(
     n: u64,
     events: &mut EventList,
 ) -> Result<u64, OutOfMemory>
-    ensures { (w : Ways) (side : Side) (x y : Half) → IsReadyFor w (Step.Deliver side n) own.old peer.old x y → events.old ≡ [] →
+    ensures { (w : SideTerms) (side : Side) (x y : RunSide) → IsReadyFor w (Step.Deliver side n) own.old peer.old x y → events.old ≡ [] →
         IfOk result (Delivers w n own.new peer.new events.new x y) }
 {
     if !is_running(own) {
@@ -121,7 +121,7 @@ fn deliver(
 fn answer_call(alloc: Global, own: &mut MuxEnd, call: &Call) -> Result<DuoAnswer, OutOfMemory>
     requires built { is_built_call call.now ≡ true }
     requires free { is_offer_call call.now ≡ true → own.old.channel ≡ None }
-    ensures { (w : Ways) (side : Side) (peer : EndValue) (x y : Half) → IsReadyFor w (Step.Call side call.now) own.old peer x y →
+    ensures { (w : SideTerms) (side : Side) (peer : EndValue) (x y : RunSide) → IsReadyFor w (Step.Call side call.now) own.old peer x y →
         IfOk result (CallAnswersAt w side call.now own.new x y) }
 {
     let mut events = EventList::new(alloc);
@@ -142,7 +142,7 @@ fn answer_step(
 ) -> Result<DuoAnswer, OutOfMemory>
     requires built { is_built_step step.now ≡ true }
     requires free { is_offer_step step.now ≡ true → own.old.channel ≡ None }
-    ensures { (w : Ways) (x y : Half) → IsReadyFor w step.now own.old peer.old x y → IfOk result (StepAnswersAt w step.now own.new peer.new x y) }
+    ensures { (w : SideTerms) (x y : RunSide) → IsReadyFor w step.now own.old peer.old x y → IfOk result (StepAnswersAt w step.now own.new peer.new x y) }
 {
     match step {
         Step::Call(_, call) => answer_call(alloc, own, call),

@@ -3,7 +3,8 @@ use Rattle.std.proofs.Common.{◌≡◌, ℕ, ◌<◌, ◌≤◌, List, [], ◌�
 use Rattle.wire_base.specs.declared.frame.Version.{Version}
 use Rattle.mux_items.specs.declared.channel.ChannelKey.{ChannelKey}
 use Rattle.mux_items.specs.Bodies.{Content, frame_on, frame_text, frame_texts}
-use Rattle.mux_items.specs.Due.{piece_size, pieces_in, pieces, content_frames}
+use Rattle.mux_items.specs.Limits.{piece_size}
+use Rattle.mux_items.specs.Due.{pieces_in, pieces, content_frames}
 
 -- more turns than bytes change nothing
 pieces_enough : (m n : ℕ) (bytes : List ℕ) → length bytes ≤ m → length bytes ≤ n → pieces_in m bytes ≡ pieces_in n bytes

@@ -13,8 +13,9 @@ use Rattle.mux_items.specs.declared.channel.ChannelKey.{ChannelKey}
 use Rattle.mux_items.specs.Bodies.{FrameBody, Offer, OfferAccepted, Content, ContentWritingCompleted, ChannelTerminated, ContentProcessed, same_key, is_one}
 use Rattle.mux_items.specs.Items.{Item, DidOffer, Got, ended}
 use Rattle.mux_items.specs.Lists.{written, window, termination_emitted, has_completed, is_accepted}
-use Rattle.mux_items.specs.Kept.{keys, is_known, is_kept, kept_keys, own_windows, own_offers, most_channels}
-use Rattle.mux_items.specs.Refusals.{is_ready, unless_ended, most_windows, is_bad_window, offer_refusal, accept_refusal, is_unaccepted, or_else, most_bytes, write_refusal, read_refusal, heeded_refusal, later_refusal}
+use Rattle.mux_items.specs.Limits.{most_channels, most_windows, most_bytes}
+use Rattle.mux_items.specs.Kept.{keys, is_known, is_kept, kept_keys, own_windows, own_offers}
+use Rattle.mux_items.specs.Refusals.{is_ready, unless_ended, is_bad_window, offer_refusal, accept_refusal, is_unaccepted, or_else, write_refusal, read_refusal, heeded_refusal, later_refusal}
 use Rattle.mux_items.specs.Applying.{Allowed}
 use Rattle.mux_end.specs.Lane.{Lane, lane_of, channel_of}
 use Rattle.mux_end.specs.Stands.{IsBuilt, is_built_item, state_by, state_of}

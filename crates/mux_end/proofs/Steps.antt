@@ -14,11 +14,12 @@ use Rattle.mux_items.specs.declared.channel.ChannelKey.{ChannelKey}
 use Rattle.mux_items.specs.declared.party.Party.{Party}
 use Rattle.mux_items.specs.Bodies.{FrameBody, Offer, OfferAccepted, Content, ContentWritingCompleted, ChannelTerminated, ContentProcessed, ChannelFrame, frame_on, frame_texts, same_key, is_three, window_of}
 use Rattle.mux_items.specs.Items.{Item, Hello, DidOffer, DidAccept, DidWrite, DidRead, Got, End, ended, is_running, greeting, party_or_neither, party_of}
-use Rattle.mux_items.specs.Kept.{keys, is_known, kept_keys, next_key, most_channels}
+use Rattle.mux_items.specs.Limits.{most_channels}
+use Rattle.mux_items.specs.Kept.{keys, is_known, kept_keys, next_key}
 use Rattle.mux_items.specs.Refusals.{offer_refusal, accept_refusal, write_refusal, read_refusal, later_refusal, frame_refusal, is_greeted, is_ready}
 use Rattle.mux_items.specs.Views.{view_of, tally_of, known_keys}
 use Rattle.mux_items.specs.Due.{written_window, due}
-use Rattle.mux_items.specs.Applying.{is_offer, is_refused_room, Allowed}
+use Rattle.mux_items.specs.Applying.{is_offer, lacks_room, Allowed}
 use Rattle.mux_end.specs.Lane.{Lane, lane_of, lane_of_keys, channel_of, heard_lane, accepted_lane, answered_lane, written_lane, taken_lane, credited_lane, read_lane}
 use Rattle.mux_end.specs.Stands.{EndValue, IsBuilt, MuxStands, state_by, state_of}
 use Rattle.mux_end.specs.Replies.{Adds, built_refusal, reason_or}
@@ -230,7 +231,7 @@ reason_or-none : (r s : Option Reason) → reason_or r s ≡ None → (r ≡ Non
 reason_or-none None s e = (refl, e)
 reason_or-none (Some r) s e = absurd (cc)
 
-room_left : (v : Version) (body : FrameBody) (items : List Item) → IsBuilt items → is_refused_room v body items ≡ false
+room_left : (v : Version) (body : FrameBody) (items : List Item) → IsBuilt items → lacks_room v body items ≡ false
 room_left v body items built =
     let few = kept_keys_few v items built in
     and_right (is_offer body) (nat_le most_channels (length (kept_keys v items))) (lt-leb most_channels (length (kept_keys v items)) (omega arith))

@@ -15,7 +15,8 @@ use Rattle.mux_items.specs.Bodies.{FrameBody, Offer, OfferAccepted, Content, Con
 use Rattle.mux_items.specs.Items.{Item, Hello, DidOffer, DidAccept, DidWrite, DidRead, DidComplete, DidTerminate, Got, Rejected, End, ended, is_running, greeting}
 use Rattle.mux_items.specs.Lists.{written, window, is_offered, is_cut, before_cut, is_accepted_in, granted_in, within_grant, emitted, termination_emitted, heeds, taken, is_accepted, is_completed, acknowledged, granted, is_dropped, unread_count, handed, unread}
 use Rattle.mux_items.specs.Kept.{keys, is_known, is_kept}
-use Rattle.mux_items.specs.Refusals.{is_ready, unless_ended, is_bad_window, offer_refusal, accept_refusal, is_unaccepted, open_refusal, or_else, writing_refusal, most_bytes, write_refusal, read_refusal, is_early, is_above_window, heeded_refusal, later_refusal, frame_refusal}
+use Rattle.mux_items.specs.Limits.{most_bytes}
+use Rattle.mux_items.specs.Refusals.{is_ready, unless_ended, is_bad_window, offer_refusal, accept_refusal, is_unaccepted, open_refusal, or_else, writing_refusal, write_refusal, read_refusal, is_early, is_above_window, heeded_refusal, later_refusal, frame_refusal}
 use Rattle.mux_items.specs.Applying.{Allowed}
 use Rattle.mux_end.specs.Stands.{is_built_item}
 use Rattle.mux_end.proofs.Plain.{same_key-true, each_rest, is_kept-built, is_known-none, is_known-one, is_offered-built, termination_emitted-built, unread_length-built, emitted-running, emitted_by, emitted_by_read, acknowledged_by_credit}

@@ -18,7 +18,8 @@ use Rattle.mux_handshake.specs.Handshake as handshakes
 use Rattle.mux_items.specs.Applying.{heeded_event}
 use Rattle.mux_items.specs.Bodies.{FrameBody, Offer, OfferAccepted, Content, ContentWritingCompleted, ChannelTerminated, ContentProcessed, ChannelFrame, frame_on, frame_texts, same_key, taken_frame, window_of, is_three}
 use Rattle.mux_items.specs.Due.{content_frames, written_window}
-use Rattle.mux_items.specs.Refusals.{most_bytes, is_greeted}
+use Rattle.mux_items.specs.Limits.{most_bytes}
+use Rattle.mux_items.specs.Refusals.{is_greeted}
 use Rattle.mux_end.specs.declared.step.MuxStep.{MuxStep}
 use Rattle.mux_end.specs.declared.step.MuxStep.TheVariants as step
 use Rattle.mux_end.specs.Lane.{Lane, sendable_bytes, with_emitted, offered_lane, heard_lane, accepted_lane, answered_lane, written_lane, taken_lane, credited_lane, read_count, read_lane}

@@ -19,7 +19,8 @@ use Rattle.mux_items.specs.declared.party.Party.{Party}
 use Rattle.mux_items.specs.Items.{Item, Hello, Got, End, party_of}
 use Rattle.mux_items.specs.Kept.{keys}
 use Rattle.mux_items.specs.Due.{due}
-use Rattle.mux_items.specs.Refusals.{frame_refusal, is_ready, most_bytes}
+use Rattle.mux_items.specs.Limits.{most_bytes}
+use Rattle.mux_items.specs.Refusals.{frame_refusal, is_ready}
 use Rattle.mux_handshake.specs.Handshake.{Handshake, handshake}
 use Rattle.mux_handshake.specs.Handshake as handshakes
 use Rattle.mux_items.specs.Applying.{place_at, frame_event}

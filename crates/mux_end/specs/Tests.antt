@@ -12,7 +12,8 @@ use Rattle.mux_items.specs.declared.channel.Phase.{Phase}
 use Rattle.mux_items.specs.declared.channel.Phase.TheVariants as phase
 use Rattle.mux_items.specs.declared.channel.Tally.{Tally}
 use Rattle.mux_items.specs.Bodies.{FrameBody, Offer, OfferAccepted, Content, ContentWritingCompleted, ChannelTerminated, ContentProcessed, ChannelFrame, frame_on, same_key, is_one}
-use Rattle.mux_items.specs.Refusals.{is_bad_window, most_bytes}
+use Rattle.mux_items.specs.Limits.{most_bytes}
+use Rattle.mux_items.specs.Refusals.{is_bad_window}
 use Rattle.mux_end.specs.Lane.{Lane, read_count}
 
 -- a refusal that every call but a read has first

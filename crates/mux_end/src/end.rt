@@ -13,7 +13,8 @@ ghost use Rattle.mux_items.specs.Bodies.{body_of, has_parity, is_own, key_of, ta
 ghost use Rattle.mux_items.specs.Items.{DidAccept, DidOffer, DidRead, DidWrite, Item, ended};
 ghost use Rattle.mux_items.specs.Kept.{next_key, own_id};
 ghost use Rattle.mux_items.specs.Lists.{unread};
-ghost use Rattle.mux_items.specs.Refusals.{accept_refusal, is_ready, most_bytes, offer_refusal, read_refusal, write_refusal};
+ghost use Rattle.mux_items.specs.Limits.{most_bytes};
+ghost use Rattle.mux_items.specs.Refusals.{accept_refusal, is_ready, offer_refusal, read_refusal, write_refusal};
 ghost use Rattle.mux_items.specs.Views.{known_keys, tally_of, view_of};
 ghost use Rattle.std.specs.Prelude.{◌≡◌, ◌≤◌, ◌<◌, ◌+◌, ◌++◌, List, [], ℕ, drop, length, min, nat_lt, slice_get, take, true, false, IfOk, OnOk, IfSome};
 ghost use Rattle.wire_base.specs.declared.refusal.Refusal.{Refusal};

@@ -9,7 +9,8 @@ use Rattle.mux_items.specs.declared.channel.ChannelKey.{ChannelKey}
 use Rattle.mux_items.specs.Bodies.{FrameBody, Offer, OfferAccepted, Content, ContentWritingCompleted, ChannelTerminated, ContentProcessed, ChannelFrame, frame_on, same_key, is_one, window_of}
 use Rattle.mux_items.specs.Items.{Item, Hello, DidOffer, DidAccept, DidWrite, DidRead, DidComplete, DidTerminate, Got, Rejected, End, names, is_running}
 use Rattle.mux_items.specs.Lists.{written, is_cut, before_cut, is_accepted_in, granted_in, within_grant, emitted_in, emitted, is_live, unread}
-use Rattle.mux_items.specs.Due.{pieces_in, pieces, piece_size, content_frames, span, newly_emitted, completes, terminates, due_on, written_window, acknowledgement, due, sent, content_of, content_on, contents}
+use Rattle.mux_items.specs.Limits.{piece_size}
+use Rattle.mux_items.specs.Due.{pieces_in, pieces, content_frames, span, newly_emitted, completes, terminates, due_on, written_window, acknowledgement, due, sent, content_of, content_on, contents}
 use Rattle.mux_items.proofs.Keys.{same_key_true}
 
 pub contents-append : (c : ChannelKey) (fs gs : List ChannelFrame) → contents c (fs ++ gs) ≡ contents c fs ++ contents c gs

@@ -12,7 +12,8 @@ use Rattle.mux_items.specs.Bodies.{Content, is_one}
 use Rattle.mux_items.specs.Items.{Item, ended}
 use Rattle.mux_items.specs.Lists.{window, has_completed, termination_emitted, is_accepted, is_completed, unread}
 use Rattle.mux_items.specs.Kept.{is_kept, own_windows}
-use Rattle.mux_items.specs.Refusals.{unless_ended, or_else, is_bad_window, most_windows, heeded_refusal, writing_refusal, write_refusal, accept_refusal, frame_refusal, is_early, is_above_window}
+use Rattle.mux_items.specs.Limits.{most_windows}
+use Rattle.mux_items.specs.Refusals.{unless_ended, or_else, is_bad_window, heeded_refusal, writing_refusal, write_refusal, accept_refusal, frame_refusal, is_early, is_above_window}
 
 unless_none : (cause : Option Cause) (refused : Option Refusal) → unless_ended cause refused ≡ None → refused ≡ None
 unless_none (Some cause) refused e = absurd (cc)

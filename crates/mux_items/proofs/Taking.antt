@@ -1,14 +1,16 @@
 -- What was taken from a channel is a front of the content that came on it.
-use Rattle.std.specs.Prelude.{ℕ, ◌+◌, ◌≤◌, List, [], ◌∷◌, ◌++◌, length, Bool, true, false, not, ◌&&◌, ◌||◌, ◌==◌, nat_le, if◌then◌else◌}
+use Rattle.std.specs.Prelude.{ℕ, zero, suc, ◌+◌, ◌-◌, ◌≤◌, min, List, [], ◌∷◌, ◌++◌, length, take, drop, Bool, true, false, not, ◌&&◌, ◌||◌, ◌==◌, nat_le, if◌then◌else◌}
 use Rattle.std.proofs.Common.{◌≡◌, inl, inr, refl, sym, ◌∙◌, ap, subst, arith, length-append, append_assoc}
 use Rattle.std.proofs.lemmas.Bool.{cases_Bool, true≢false, false≢true, and_parts, and_from, or_left, or_right, eqb-true, eq-eqb}
-use Rattle.std.proofs.lemmas.List.{append-nil}
+use Rattle.std.proofs.lemmas.List.{append-nil, length-drop, take_min, take-append-le}
+use Rattle.std.proofs.Math.Seq.{take-add}
 use Rattle.mux_items.specs.declared.channel.ChannelKey.{ChannelKey}
 use Rattle.wire_base.specs.declared.frame.Version.{Version}
 use Rattle.mux_items.specs.Bodies.{FrameBody, Offer, OfferAccepted, Content, ContentWritingCompleted, ChannelTerminated, ContentProcessed, ChannelFrame, frame_on, same_key}
 use Rattle.mux_items.specs.Items.{Item, DidWrite, DidRead, DidComplete, DidTerminate, Got, Rejected}
-use Rattle.mux_items.specs.Kept.{kept_keys, most_channels}
-use Rattle.mux_items.specs.Lists.{written, is_accepted_in, is_completed_in, emitted_in, completion_in, has_completed, has_terminated, is_terminated_by_peer, is_rejected, is_finished, termination_emitted, heeds, taken, handed, is_dropped, unread_count}
+use Rattle.mux_items.specs.Limits.{most_channels}
+use Rattle.mux_items.specs.Kept.{kept_keys}
+use Rattle.mux_items.specs.Lists.{written, is_accepted_in, is_completed_in, emitted_in, completion_in, has_completed, has_terminated, is_terminated_by_peer, is_rejected, is_finished, termination_emitted, heeds, taken, handed, read_bytes, is_dropped, unread_count, unread}
 use Rattle.mux_items.specs.Due.{got, content_of, content_on, contents}
 use Rattle.mux_items.specs.Applying.{Allowed, is_offer}
 use Rattle.mux_items.proofs.Keys.{same_key_true}
@@ -143,7 +145,7 @@ exact_step v c (Got place key (OfferAccepted size)) items heard ok e = e ∙ sym
 exact_step v c (Got place key ContentWritingCompleted) items heard ok e = e ∙ sym (contents-other c key ContentWritingCompleted (got items) refl)
 exact_step v c (Got place key ChannelTerminated) items heard ok e = e ∙ sym (contents-other c key ChannelTerminated (got items) refl)
 exact_step v c (Got place key (ContentProcessed count)) items heard ok e = e ∙ sym (contents-other c key (ContentProcessed count) (got items) refl)
-exact_step v c (Rejected place key body) items heard ok e = e ∙ sym (contents-other c key body (got items) (offer_content body (and_parts (is_offer body) (nat_le most_channels (length (kept_keys v items))) ok.2).0))
+exact_step v c (Rejected place key body) items heard ok e = e ∙ sym (contents-other c key body (got items) (offer_content body (and_parts (is_offer body) (nat_le most_channels (length (kept_keys v items))) ok.1).0))
 exact_step v c item items heard ok e = e
 
 pub taken_exact : (v : Version) (c : ChannelKey) (items : List Item) → termination_emitted v c items ≡ false → Allowed v items → taken v c items ≡ contents c (got items)
@@ -171,3 +173,35 @@ taken_front v c (item ∷ items) ok = elim (cases_Bool (termination_emitted v c 
       (before.0 ++ contents c (got_more item items).0, front_stays v c item items before.0 e before.1)
   | inr e ↦ ([], append-nil (taken v c (item ∷ items)) ∙ exact_step v c item items e ok (taken_exact v c items e (allowed_tail v item items ok)))
 ]
+
+-- the bytes that reads answered are, in order, the taken ones that were handed over
+
+read_none : (max moved : ℕ) (bytes : List ℕ) → take moved bytes ++ [] ≡ take (moved + min max 0) bytes
+read_none max moved bytes = append-nil (take moved bytes) ∙ ap (λ n. take n bytes) (omega arith)
+
+read_more : (max moved : ℕ) (bytes : List ℕ) → take moved bytes ++ take max (drop moved bytes) ≡ take (moved + min max (length bytes - moved)) bytes
+read_more max moved bytes =
+    ap (λ bs. take moved bytes ++ bs) (sym (take_min max (drop moved bytes)))
+    ∙ (ap (λ n. take moved bytes ++ take (min max n) (drop moved bytes)) (length-drop moved bytes)
+    ∙ sym (take-add moved (min max (length bytes - moved)) bytes))
+
+take_nothing : (n : ℕ) → take {A = ℕ} n [] ≡ []
+take_nothing zero = refl
+take_nothing (suc n) = refl
+
+read_by : (dropped : Bool) (max moved : ℕ) (bytes : List ℕ) → take moved bytes ++ take max (if dropped then [] else drop moved bytes) ≡ take (moved + min max (unread_count dropped (length bytes) moved)) bytes
+read_by true max moved bytes = ap (λ bs. take moved bytes ++ bs) (take_nothing max) ∙ read_none max moved bytes
+read_by false max moved bytes = read_more max moved bytes
+
+read_came : (moved : ℕ) (heeded : Bool) (bytes more : List ℕ) → moved ≤ length bytes → take moved bytes ≡ take moved (if heeded then bytes ++ more else bytes)
+read_came moved true bytes more h = sym (take-append-le moved bytes more h)
+read_came moved false bytes more h = refl
+
+pub read_bytes-is : (v : Version) (c : ChannelKey) (items : List Item) → read_bytes v c items ≡ take (handed v c items) (taken v c items)
+read_bytes-is v c [] = refl
+read_bytes-is v c (DidRead key max ∷ items) = elim (cases_Bool (same_key key c)) [
+  | inl e ↦ rw e (ap (λ bs. bs ++ take max (unread v c items)) (read_bytes-is v c items) ∙ read_by (is_dropped v c items) max (handed v c items) (taken v c items))
+  | inr e ↦ rw e (read_bytes-is v c items)
+]
+read_bytes-is v c (Got place key (Content bytes) ∷ items) = read_bytes-is v c items ∙ read_came (handed v c items) (heeds v key c items) (taken v c items) bytes (handed_bound v c items)
+read_bytes-is v c (item ∷ items) = read_bytes-is v c items

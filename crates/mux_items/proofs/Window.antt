@@ -93,7 +93,7 @@ taken_content v place c bytes items two ok heard grown =
       ap (λ bs. unread_count (is_dropped v c (item ∷ items)) (length bs) (handed v c items)) grown,
       ap (λ n. unread_count (is_dropped v c (item ∷ items)) n (handed v c items)) (length-append (taken v c items) bytes),
       unread_count_more (is_dropped v c items) (is_dropped v c (item ∷ items)) (length (taken v c items)) (handed v c items) (length bytes) (dropped_more v c item items ok) (handed_bound v c items),
-      content_permits v c bytes items two ok.1 heard,
+      content_permits v c bytes items two ok.0.unrefused heard,
     )
 
 taken_by : (same terminated : Bool) (xs ys : List ℕ) → ((same ≡ true) × (terminated ≡ false) × ((if same && not terminated then xs ++ ys else xs) ≡ xs ++ ys)) ⊎ ((if same && not terminated then xs ++ ys else xs) ≡ xs)
@@ -111,6 +111,6 @@ pub unread_window : (v : Version) (c : ChannelKey) (items : List Item) → is_on
 unread_window v c [] two ok = omega arith
 unread_window v c (Got place key (Content bytes) ∷ items) two ok = elim (taken_by (same_key key c) (termination_emitted v c items) (taken v c items) bytes) [
   | inl t ↦ content_on_key v place c key bytes items two ok (same_key_true key c t.0) t.1 t.2
-  | inr t ↦ same_taken v c (Got place key (Content bytes)) items ok t (unread_window v c items two ok.3)
+  | inr t ↦ same_taken v c (Got place key (Content bytes)) items ok t (unread_window v c items two ok.2)
 ]
 unread_window v c (item ∷ items) two ok = same_taken v c item items ok refl (unread_window v c items two (allowed_tail v item items ok))

@@ -58,7 +58,7 @@ due_of_both : due version.Two (Got 60 here ContentWritingCompleted) (DidComplete
 due_of_both = refl
 
 here_allowed : Allowed version.Two (acknowledged_two ∷ wrote ∷ accepted)
-here_allowed = (refl, refl, refl, (refl, (refl, refl, refl, (refl, refl, (refl, refl, tt)))))
+here_allowed = (record { ready = refl; running = refl; unrefused = refl }, refl, (refl, (record { ready = refl; running = refl; unrefused = refl }, refl, (refl, refl, (record { needed = refl; parity = refl; once = refl; running = refl }, tt)))))
 
 -- the items of the other end
 abbrev came : List Item
@@ -90,4 +90,4 @@ within_window : frame_refusal version.Two there (Content (111 ∷ [])) (DidRead 
 within_window = refl
 
 there_allowed : Allowed version.Two read_all
-there_allowed = (refl, (refl, refl, refl, (refl, (refl, refl, refl, (refl, (refl, refl, refl, (refl, refl, tt)))))))
+there_allowed = (refl, (record { ready = refl; running = refl; unrefused = refl }, refl, (refl, (record { ready = refl; running = refl; unrefused = refl }, refl, (refl, (record { ready = refl; running = refl; unrefused = refl }, refl, (record { needed = refl; parity = refl; once = refl; running = refl }, tt)))))))

@@ -13,6 +13,7 @@ use Rattle.frame_text.specs.Frames.{text, texts}
 use Rattle.mux_items.specs.declared.channel.ChannelKey.{ChannelKey}
 use Rattle.mux_items.specs.declared.party.Party.{Party}
 use Rattle.mux_items.specs.declared.party.Party.TheVariants.{Odd, Even, Neither}
+use Rattle.mux_items.specs.Limits.{absent_window}
 
 -- what a frame says to its channel; an absent window is None
 pub data FrameBody : Type 0 where
@@ -55,10 +56,6 @@ abbrev pub is_three : Version → Bool
 is_three version.One = false
 is_three version.Two = false
 is_three version.Three = true
-
--- the window of an offer or an acceptance that names none
-abbrev pub absent_window : ℕ
-absent_window = 102400
 
 abbrev pub window_of : Option ℕ → ℕ
 window_of window = unwrap_or window absent_window

@@ -5,12 +5,9 @@ use Rattle.frame_text.specs.Frames.{is_empty}
 use Rattle.wire_base.specs.declared.frame.Version.{Version}
 use Rattle.mux_items.specs.declared.channel.ChannelKey.{ChannelKey}
 use Rattle.mux_items.specs.Bodies.{FrameBody, Offer, OfferAccepted, Content, ContentWritingCompleted, ChannelTerminated, ContentProcessed, ChannelFrame, frame_on, same_key, is_one}
+use Rattle.mux_items.specs.Limits.{piece_size}
 use Rattle.mux_items.specs.Items.{Item, Hello, DidOffer, DidAccept, DidWrite, DidRead, DidComplete, DidTerminate, Got, Rejected, End, is_running}
 use Rattle.mux_items.specs.Lists.{written, emitted, completion_emitted, termination_emitted, unread, is_live}
-
--- the most bytes of one content frame
-abbrev pub piece_size : ℕ
-piece_size = 20480
 
 -- bytes in pieces of this size, but for the last
 abbrev pub pieces_in : (turns : ℕ) → List ℕ → List (List ℕ)

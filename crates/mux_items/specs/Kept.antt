@@ -49,7 +49,3 @@ own_id Neither k = k
 -- the channel that the next own offer draws
 abbrev pub next_key : List Item → ChannelKey
 next_key items = record { id = own_id (party_of items) (own_offers items + 1); own = true }
-
--- the most channels that an end keeps
-abbrev pub most_channels : ℕ
-most_channels = 1024

@@ -1,3 +1,4 @@
+pub mod Limits
 pub mod Bodies
 pub mod Parties
 pub mod Items
@@ -5,5 +6,6 @@ pub mod Lists
 pub mod Kept
 pub mod Due
 pub mod Refusals
+pub mod Calls
 pub mod Applying
 pub mod Views

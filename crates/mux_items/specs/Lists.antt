@@ -1,5 +1,5 @@
 -- The lists of a channel at one end, from its items.
-use Rattle.std.specs.Prelude.{ℕ, ◌+◌, ◌-◌, min, List, [], ◌∷◌, ◌++◌, length, drop, Bool, true, false, not, ◌&&◌, ◌||◌, ◌==◌, if◌then◌else◌}
+use Rattle.std.specs.Prelude.{ℕ, ◌+◌, ◌-◌, min, List, [], ◌∷◌, ◌++◌, length, take, drop, Bool, true, false, not, ◌&&◌, ◌||◌, ◌==◌, if◌then◌else◌}
 use Rattle.wire_base.specs.declared.frame.Version.{Version}
 use Rattle.mux_items.specs.declared.channel.ChannelKey.{ChannelKey}
 use Rattle.mux_items.specs.declared.channel.Phase.{Phase}
@@ -171,6 +171,12 @@ handed v c (item ∷ items) = handed v c items
 -- what was taken and not handed over
 abbrev pub unread : Version → ChannelKey → List Item → List ℕ
 unread v c items = if is_dropped v c items then [] else drop (handed v c items) (taken v c items)
+
+-- all bytes that reads answered, oldest first
+abbrev pub read_bytes : Version → ChannelKey → List Item → List ℕ
+read_bytes v c [] = []
+read_bytes v c (DidRead key max ∷ items) = if same_key key c then read_bytes v c items ++ take max (unread v c items) else read_bytes v c items
+read_bytes v c (item ∷ items) = read_bytes v c items
 
 -- where the channel stands
 abbrev pub phase_of : Version → ChannelKey → List Item → Phase

@@ -10,7 +10,8 @@ use Rattle.mux_items.specs.declared.channel.ChannelKey.{ChannelKey}
 use Rattle.mux_items.specs.Bodies.{FrameBody, Offer, OfferAccepted, Content, ContentWritingCompleted, ChannelTerminated, ContentProcessed, is_one, is_three}
 use Rattle.mux_items.specs.Items.{Item, ended, greeting}
 use Rattle.mux_items.specs.Lists.{written, window, is_offered, has_completed, emitted, termination_emitted, is_accepted, is_completed, acknowledged, unread}
-use Rattle.mux_items.specs.Kept.{is_kept, kept_keys, own_windows, own_offers, most_channels}
+use Rattle.mux_items.specs.Kept.{is_kept, kept_keys, own_windows, own_offers}
+use Rattle.mux_items.specs.Limits.{longest_name, greatest_window, most_windows, most_channels, most_offers, most_bytes}
 
 -- in version 3 an end is ready from its start, else from the peer's handshake on
 abbrev pub is_greeted : {A : Type 0} → Option A → Bool
@@ -25,20 +26,17 @@ abbrev pub unless_ended : Option Cause → Option Refusal → Option Refusal
 unless_ended (Some cause) otherwise = Some (refusal.Ended cause)
 unless_ended None otherwise = otherwise
 
-abbrev pub most_windows : ℕ
-most_windows = 268435456
-
 abbrev pub is_bad_window : ℕ → Bool
-is_bad_window size = nat_lt size 1 || nat_lt 16777216 size
+is_bad_window size = nat_lt size 1 || nat_lt greatest_window size
 
 abbrev pub offer_refusal : Version → List ℕ → ℕ → List Item → Option Refusal
 offer_refusal v name size items = unless_ended (ended items)
     (if not (is_ready v items) then Some refusal.NotReady
-    else if nat_lt 1024 (length name) then Some refusal.NameTooLong
+    else if nat_lt longest_name (length name) then Some refusal.NameTooLong
     else if is_bad_window size then Some refusal.BadWindow
     else if nat_le most_channels (length (kept_keys v items)) then Some refusal.TooManyChannels
     else if nat_lt most_windows (own_windows v items + size) then Some refusal.WindowsSpent
-    else if nat_le 2147483647 (own_offers items) then Some refusal.TooManyOffers
+    else if nat_le most_offers (own_offers items) then Some refusal.TooManyOffers
     else None)
 
 abbrev pub accept_refusal : Version → ChannelKey → ℕ → List Item → Option Refusal
@@ -71,10 +69,6 @@ writing_refusal v c items = or_else (open_refusal v c items)
     (if is_unaccepted v c items then Some refusal.NotAccepted
     else if has_completed c items then Some refusal.WritingDone
     else None)
-
--- the most bytes that are written on a channel, or fed to an end
-abbrev pub most_bytes : ℕ
-most_bytes = 0x4000000000000000
 
 abbrev pub write_refusal : Version → ChannelKey → List ℕ → List Item → Option Refusal
 write_refusal v c bytes items = unless_ended (ended items) (or_else (writing_refusal v c items)

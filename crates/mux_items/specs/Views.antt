@@ -1,10 +1,10 @@
 -- What an end shows of its channels.
-use Rattle.std.specs.Prelude.{ℕ, ◌-◌, List, [], ◌∷◌, ◌++◌, length, filter, Bool, true, false, not, nat_lt, if◌then◌else◌, Option, Some, None}
+use Rattle.std.specs.Prelude.{ℕ, ◌-◌, List, [], ◌∷◌, length, Bool, nat_lt, if◌then◌else◌, Option, Some, None}
 use Rattle.wire_base.specs.declared.frame.Version.{Version}
 use Rattle.mux_items.specs.declared.channel.ChannelKey.{ChannelKey}
 use Rattle.mux_items.specs.declared.channel.ChannelView.{ChannelView}
 use Rattle.mux_items.specs.declared.channel.Tally.{Tally}
-use Rattle.mux_items.specs.Bodies.{is_one}
+use Rattle.mux_items.specs.Bodies.{is_one, same_bool}
 use Rattle.mux_items.specs.Items.{Item}
 use Rattle.mux_items.specs.Lists.{written, emitted, taken, handed, unread, granted, is_cut, is_completed, phase_of}
 use Rattle.mux_items.specs.Kept.{keys, is_known, is_kept}
@@ -40,15 +40,18 @@ tally_of v c items =
     })
     else None
 
--- a channel among others by rising id
-abbrev pub insert_by_id : ChannelKey → List ChannelKey → List ChannelKey
-insert_by_id c [] = c ∷ []
-insert_by_id c (d ∷ ds) = if nat_lt d.id c.id then d ∷ insert_by_id c ds else c ∷ d ∷ ds
+-- own channels stand before the peer's, and each side's by rising id
+abbrev pub precedes : (a b : ChannelKey) → Bool
+precedes a b = if same_bool a.own b.own then nat_lt a.id b.id else a.own
 
-abbrev pub by_id : List ChannelKey → List ChannelKey
-by_id [] = []
-by_id (c ∷ cs) = insert_by_id c (by_id cs)
+abbrev pub insert_key : ChannelKey → List ChannelKey → List ChannelKey
+insert_key c [] = c ∷ []
+insert_key c (d ∷ ds) = if precedes d c then d ∷ insert_key c ds else c ∷ d ∷ ds
 
--- the channels that were offered and not rejected: own ones by rising id, then the peer's by rising id
+abbrev pub in_order : List ChannelKey → List ChannelKey
+in_order [] = []
+in_order (c ∷ cs) = insert_key c (in_order cs)
+
+-- the channels that were offered and not rejected, in their order
 abbrev pub known_keys : List Item → List ChannelKey
-known_keys items = by_id (filter (λ c. c.own) (keys items)) ++ by_id (filter (λ c. not c.own) (keys items))
+known_keys items = in_order (keys items)

@@ -5,7 +5,7 @@ ghost use Rattle.wire_base.specs.declared.frame.Version.{Version};
 ghost use Rattle.mux_items.specs.declared.channel.ChannelKey.{ChannelKey};
 ghost use Rattle.mux_items.specs.Bodies.{is_one};
 ghost use Rattle.mux_items.specs.Items.{Item, restricted};
-ghost use Rattle.mux_items.specs.Lists.{written, window, emitted, taken, handed, unread};
+ghost use Rattle.mux_items.specs.Lists.{written, window, emitted, taken, handed, read_bytes, unread};
 ghost use Rattle.mux_items.specs.Due.{sent, got, contents};
 ghost use Rattle.mux_items.specs.Applying.{Allowed};
 
@@ -23,6 +23,11 @@ pub fn taken_is_content()
 pub fn counts_are_bounded()
     ensures handed { (v : Version) (c : ChannelKey) (items : List Item) → handed v c items ≤ length (taken v c items) }
     ensures emitted { (v : Version) (c : ChannelKey) (items : List Item) → emitted v c items ≤ length (written c items) }
+{}
+
+/// The bytes that reads answered are, in order, the taken ones that were handed over.
+pub fn reads_answer_what_was_taken()
+    ensures { (v : Version) (c : ChannelKey) (items : List Item) → read_bytes v c items ≡ take (handed v c items) (taken v c items) }
 {}
 
 /// A channel depends on the items that name it, the handshake and the end alone.

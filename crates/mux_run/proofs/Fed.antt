@@ -16,19 +16,20 @@ use Rattle.mux_items.specs.Bodies.{FrameBody, ChannelFrame, flip, frame_text, fr
 use Rattle.mux_items.specs.Items.{Item, Hello, Got, Rejected, End, is_running, greeting}
 use Rattle.mux_items.specs.Due.{sent, got}
 use Rattle.mux_items.specs.Refusals.{is_ready, is_greeted, frame_refusal}
-use Rattle.mux_items.specs.Applying.{apply_frame, after_frame, is_refused_room, place_at}
+use Rattle.mux_items.specs.Applying.{apply_frame, after_frame, lacks_room, place_at}
 use Rattle.mux_items.specs.Parties.{party_by}
-use Rattle.mux_run.specs.Run.{Half, World, Terms, Ways, ways_a, ways_b, turned, greeting_size, whole_frames, next_frames, place_after, greet, greeted, apply_frames, settled, call_refusal, item_of_call, unless_refused, called, added, is_spent, delivered_to, half_after, side_of, happens_at, happens, fresh, start, run_from, run}
+use Rattle.mux_items.specs.Calls.{call_refusal, item_of_call, unless_refused, called}
+use Rattle.mux_run.specs.Run.{RunSide, World, Terms, SideTerms, terms_at_a, terms_at_b, turned, greeting_size, whole_frames, next_frames, place_after, greet, greeted, apply_frames, settled, added, is_spent, delivered_to, side_after, side_of, happens_at, happens, fresh, start, run_from, run}
 use Rattle.mux_run.specs.Linked.{Linked, Joined}
 use Rattle.mux_run.specs.Fed.{LieWithin, IsFed, AreFed}
 use Rattle.mux_run.specs.declared.steps.Side.{Side}
 use Rattle.mux_run.specs.declared.steps.Side.TheVariants.{A, B}
-use Rattle.mux_run.specs.declared.steps.Call.{Call}
-use Rattle.mux_run.specs.declared.steps.Call.TheVariants as call
+use Rattle.mux_items.specs.declared.call.Call.{Call}
+use Rattle.mux_items.specs.declared.call.Call.TheVariants as call
 use Rattle.mux_run.specs.declared.steps.Step.{Step}
 use Rattle.mux_run.specs.declared.steps.Step.TheVariants as step
 use Rattle.mux_run.proofs.WholeFrames.{whole_more, whole_same}
-use Rattle.mux_run.proofs.Growing.{Grown, sent_grows, greeted_grown, called_grown, frames_applied, apply_frames_more, apply_frames_stopped, half_after_grown}
+use Rattle.mux_run.proofs.Growing.{Grown, sent_grows, greeted_grown, called_grown, frames_applied, apply_frames_more, apply_frames_stopped, side_after_grown}
 use Rattle.mux_run.proofs.Links.{happens_joined, turned_joined, fresh_joined}
 
 -- frames and calls leave the greeting
@@ -38,7 +39,7 @@ greeting_item v place c body items true = refl
 greeting_item v place c body items false = refl
 
 pub greeting_by : (v : Version) (place : ℕ) (c : ChannelKey) (body : FrameBody) (items : List Item) (r : Option Reason) → greeting (after_frame v place c body items r) ≡ greeting items
-greeting_by v place c body items None = greeting_item v place c body items (is_refused_room v body items)
+greeting_by v place c body items None = greeting_item v place c body items (lacks_room v body items)
 greeting_by v place c body items (Some reason) = refl
 
 pub greeting_frames : (v : Version) (place : ℕ) (fs : List ChannelFrame) (items : List Item) → greeting (apply_frames v place fs items) ≡ greeting items
@@ -68,7 +69,7 @@ ready_same v items after e = ap (λ g. is_three v || is_greeted g) e
 
 -- the handshake
 
-greeted_by : (w : Ways) (given : ℕ) (items : List Item) → ((is_running items && not (is_ready w.version items) && nat_le (greeting_size w) given) ≡ true) × (greeted w given items ≡ greet w ∷ items)
+greeted_by : (w : SideTerms) (given : ℕ) (items : List Item) → ((is_running items && not (is_ready w.version items) && nat_le (greeting_size w) given) ≡ true) × (greeted w given items ≡ greet w ∷ items)
     ⊎ ((is_running items && not (is_ready w.version items) && nat_le (greeting_size w) given) ≡ false) × (greeted w given items ≡ items)
 greeted_by w given items = elim (cases_Bool (is_running items && not (is_ready w.version items) && nat_le (greeting_size w) given)) [
   | inl e ↦ inl (e, ap (λ b. if b then greet w ∷ items else items) e)
@@ -76,7 +77,7 @@ greeted_by w given items = elim (cases_Bool (is_running items && not (is_ready w
 ]
 
 -- a handshake that was applied was whole
-pub lie_greeted : (w : Ways) (given : ℕ) (items : List Item) (y : Half) → LieWithin w given items y → LieWithin w given (greeted w given items) y
+pub lie_greeted : (w : SideTerms) (given : ℕ) (items : List Item) (y : RunSide) → LieWithin w given items y → LieWithin w given (greeted w given items) y
 lie_greeted w given items y l = elim (greeted_by w given items) [
   | inl h ↦
       let front = and_parts (is_running items && not (is_ready w.version items)) (nat_le (greeting_size w) given) h.0 in
@@ -90,7 +91,7 @@ lie_greeted w given items y l = elim (greeted_by w given items) [
   | inr h ↦ subst (λ after. LieWithin w given after y) (sym h.1) l
 ]
 
-greet_ready : (w : Ways) (items : List Item) → is_running (greet w ∷ items) ≡ true → is_ready w.version (greet w ∷ items) ≡ true
+greet_ready : (w : SideTerms) (items : List Item) → is_running (greet w ∷ items) ≡ true → is_ready w.version (greet w ∷ items) ≡ true
 greet_ready w items = elim (bytes_eq w.own w.peer) as (λ b. is_running ((if b then End (cause.Refused (place_at (greeting_size w - length w.peer)) reason.SameNonce) else Hello (party_by w.own w.peer)) ∷ items) ≡ true
     → is_ready w.version ((if b then End (cause.Refused (place_at (greeting_size w - length w.peer)) reason.SameNonce) else Hello (party_by w.own w.peer)) ∷ items) ≡ true) [
       | true ↦ λ e. cc
@@ -98,7 +99,7 @@ greet_ready w items = elim (bytes_eq w.own w.peer) as (λ b. is_running ((if b t
     ]
 
 -- an end that runs and isn't ready waits for more of the handshake
-pub short_greeted : (w : Ways) (given : ℕ) (items : List Item) → is_running (greeted w given items) ≡ true → is_ready w.version (greeted w given items) ≡ false → given < greeting_size w
+pub short_greeted : (w : SideTerms) (given : ℕ) (items : List Item) → is_running (greeted w given items) ≡ true → is_ready w.version (greeted w given items) ≡ false → given < greeting_size w
 short_greeted w given items runs unready = elim (greeted_by w given items) [
   | inl h ↦
       let now = greet_ready w items (ap is_running (sym h.1) ∙ runs) in
@@ -115,7 +116,7 @@ short_greeted w given items runs unready = elim (greeted_by w given items) [
 ]
 
 -- what settles has applied all that is whole
-pub settled_fed : (w : Ways) (given : ℕ) (items : List Item) (y : Half) → LieWithin w given items y → IsFed w (settled w given items y) y
+pub settled_fed : (w : SideTerms) (given : ℕ) (items : List Item) (y : RunSide) → LieWithin w given items y → IsFed w (settled w given items y) y
 settled_fed w given items y l = by (is_ready w.version (greeted w given items)) refl
   where
     by : (b : Bool) → is_ready w.version (greeted w given items) ≡ b → IsFed w (record {
@@ -143,7 +144,7 @@ settled_fed w given items y l = by (is_ready w.version (greeted w given items)) 
         }
     by false e = record { lie = lie_greeted w given items y l; all = λ runs r. cc (e, r); short = λ runs u. short_greeted w given items runs u }
 
-pub lie_more : (w : Ways) (given more : ℕ) (items : List Item) (y : Half) → given ≤ more → LieWithin w given items y → LieWithin w more items y
+pub lie_more : (w : SideTerms) (given more : ℕ) (items : List Item) (y : RunSide) → given ≤ more → LieWithin w given items y → LieWithin w more items y
 lie_more w given more items y h l =
     let on = whole_more w.version (given - greeting_size w) (more - greeting_size w) (sent w.version y.items) (omega arith) in
     record {
@@ -152,16 +153,16 @@ lie_more w given more items y h l =
       within = omega (arith, l.within, ap length on.1, length-append (whole_frames w.version (given - greeting_size w) (sent w.version y.items)) on.0);
     }
 
-pub lie_same : (w : Ways) (given : ℕ) (items after : List Item) (y : Half) → got after ≡ got items → greeting after ≡ greeting items → LieWithin w given items y → LieWithin w given after y
+pub lie_same : (w : SideTerms) (given : ℕ) (items after : List Item) (y : RunSide) → got after ≡ got items → greeting after ≡ greeting items → LieWithin w given items y → LieWithin w given after y
 lie_same w given items after y same kept l =
     let ready = ready_same w.version items after kept in
     record { greeted = λ r. l.greeted (sym ready ∙ r); waits = λ u. same ∙ l.waits (sym ready ∙ u); within = omega (arith, ap length same, l.within) }
 
 -- an end that ended
-pub ended_fed : (w : Ways) (cause : Cause) (x y : Half) → IsFed w x y → IsFed w (record { items = End cause ∷ x.items; delivered = x.delivered }) y
+pub ended_fed : (w : SideTerms) (cause : Cause) (x y : RunSide) → IsFed w x y → IsFed w (record { items = End cause ∷ x.items; delivered = x.delivered }) y
 ended_fed w cause x y f = record { lie = lie_same w x.delivered x.items (End cause ∷ x.items) y refl refl f.lie; all = λ runs r. cc; short = λ runs u. cc }
 
-pub delivered_fed : (w : Ways) (n : ℕ) (x y : Half) → IsFed w x y → IsFed w (delivered_to w n x y) y
+pub delivered_fed : (w : SideTerms) (n : ℕ) (x y : RunSide) → IsFed w x y → IsFed w (delivered_to w n x y) y
 delivered_fed w n x y f = elim (is_running x.items) as (λ b. IsFed w (if not b then x else if is_spent w n x y then record { items = End cause.Spent ∷ x.items; delivered = x.delivered } else settled w (x.delivered + added w n x y) x.items y) y) [
   | true ↦ elim (is_spent w n x y) as (λ b. IsFed w (if b then record { items = End cause.Spent ∷ x.items; delivered = x.delivered } else settled w (x.delivered + added w n x y) x.items y) y) [
     | true ↦ ended_fed w cause.Spent x y f
@@ -171,16 +172,16 @@ delivered_fed w n x y f = elim (is_running x.items) as (λ b. IsFed w (if not b 
 ]
 
 -- a step of x keeps what it was fed
-pub half_after_fed : (w : Ways) (s : Step) (x y : Half) → IsFed w x y → IsFed w (half_after w s x y) y
-half_after_fed w (step.Call side c) x y f =
+pub side_after_fed : (w : SideTerms) (s : Step) (x y : RunSide) → IsFed w x y → IsFed w (side_after w s x y) y
+side_after_fed w (step.Call side c) x y f =
     let after = called w.version c x.items in
     let same : got after ≡ got x.items = (called_grown w.version c x.items).applied ∙ append-nil (got x.items) in
     settled_fed w x.delivered after y (lie_same w x.delivered x.items after y same (greeting_called w.version c x.items) f.lie)
-half_after_fed w (step.Deliver side n) x y f = delivered_fed w n x y f
-half_after_fed w (step.End side) x y f = elim (is_running x.items) as (λ b. IsFed w (if b then record { items = End cause.InputEnded ∷ x.items; delivered = x.delivered } else x) y) [ true ↦ ended_fed w cause.InputEnded x y f | false ↦ f ]
+side_after_fed w (step.Deliver side n) x y f = delivered_fed w n x y f
+side_after_fed w (step.End side) x y f = elim (is_running x.items) as (λ b. IsFed w (if b then record { items = End cause.InputEnded ∷ x.items; delivered = x.delivered } else x) y) [ true ↦ ended_fed w cause.InputEnded x y f | false ↦ f ]
 
 -- and so does a step of y, as frames behind those that reach over the bytes don't count
-pub fed_grows : (w : Ways) (x y y' : Half) (frames : List ChannelFrame) → Grown w.version y.items y'.items frames → Linked w x y → IsFed w x y → IsFed w x y'
+pub fed_grows : (w : SideTerms) (x y y' : RunSide) (frames : List ChannelFrame) → Grown w.version y.items y'.items frames → Linked w x y → IsFed w x y → IsFed w x y'
 fed_grows w x y y' frames g l f =
     let on = sent_grows w.version y.items y'.items frames g in
     let sends = sent w.version y.items in
@@ -195,20 +196,20 @@ fed_grows w x y y' frames g l f =
 
 -- runs
 
-half_after_both : (w : Ways) (s : Step) (x y : Half) → Joined w x y → AreFed w x y → AreFed w (half_after w s x y) y
-half_after_both w s x y j f =
-    let on = half_after_grown w s x y in
-    record { into = half_after_fed w s x y f.into; back = fed_grows (turned w) y x (half_after w s x y) on.0 on.1 j.back f.back }
+side_after_both : (w : SideTerms) (s : Step) (x y : RunSide) → Joined w x y → AreFed w x y → AreFed w (side_after w s x y) y
+side_after_both w s x y j f =
+    let on = side_after_grown w s x y in
+    record { into = side_after_fed w s x y f.into; back = fed_grows (turned w) y x (side_after w s x y) on.0 on.1 j.back f.back }
 
-pub turned_fed : (w : Ways) (x y : Half) → AreFed w x y → AreFed (turned w) y x
+pub turned_fed : (w : SideTerms) (x y : RunSide) → AreFed w x y → AreFed (turned w) y x
 turned_fed w x y f = record { into = f.back; back = f.into }
 
-happens_fed : (terms : Terms) (s : Step) (side : Side) (w : World) → Joined (ways_a terms) w.a w.b → AreFed (ways_a terms) w.a w.b → AreFed (ways_a terms) (happens_at terms side s w).a (happens_at terms side s w).b
-happens_fed terms s A w j f = half_after_both (ways_a terms) s w.a w.b j f
+happens_fed : (terms : Terms) (s : Step) (side : Side) (w : World) → Joined (terms_at_a terms) w.a w.b → AreFed (terms_at_a terms) w.a w.b → AreFed (terms_at_a terms) (happens_at terms side s w).a (happens_at terms side s w).b
+happens_fed terms s A w j f = side_after_both (terms_at_a terms) s w.a w.b j f
 happens_fed terms s B w j f =
-    turned_fed (ways_b terms) (half_after (ways_b terms) s w.b w.a) w.a (half_after_both (ways_b terms) s w.b w.a (turned_joined (ways_a terms) w.a w.b j) (turned_fed (ways_a terms) w.a w.b f))
+    turned_fed (terms_at_b terms) (side_after (terms_at_b terms) s w.b w.a) w.a (side_after_both (terms_at_b terms) s w.b w.a (turned_joined (terms_at_a terms) w.a w.b j) (turned_fed (terms_at_a terms) w.a w.b f))
 
-run_from_fed : (terms : Terms) (w : World) (steps : List Step) → Joined (ways_a terms) w.a w.b → AreFed (ways_a terms) w.a w.b → AreFed (ways_a terms) (run_from terms w steps).a (run_from terms w steps).b
+run_from_fed : (terms : Terms) (w : World) (steps : List Step) → Joined (terms_at_a terms) w.a w.b → AreFed (terms_at_a terms) w.a w.b → AreFed (terms_at_a terms) (run_from terms w steps).a (run_from terms w steps).b
 run_from_fed terms w [] j f = f
 run_from_fed terms w (s ∷ steps) j f = run_from_fed terms (happens terms s w) steps (happens_joined terms s (side_of s) w j) (happens_fed terms s (side_of s) w j f)
 
@@ -222,7 +223,7 @@ fresh_short version.One nonce e = omega arith
 fresh_short version.Two nonce e = omega arith
 fresh_short version.Three nonce e = cc
 
-pub fresh_fed : (w : Ways) → IsFed w fresh fresh
+pub fresh_fed : (w : SideTerms) → IsFed w fresh fresh
 fresh_fed w = record {
   lie = record { greeted = fresh_ready w.version w.peer; waits = λ u. refl; within = omega arith };
   all = λ runs r. refl;
@@ -230,5 +231,5 @@ fresh_fed w = record {
 }
 
 -- what either side applied lies in what it was given, and while it runs it applied all that is whole
-pub run_fed : (terms : Terms) (steps : List Step) → AreFed (ways_a terms) (run terms steps).a (run terms steps).b
-run_fed terms steps = run_from_fed terms start steps (fresh_joined (ways_a terms)) (record { into = fresh_fed (ways_a terms); back = fresh_fed (ways_b terms) })
+pub run_fed : (terms : Terms) (steps : List Step) → AreFed (terms_at_a terms) (run terms steps).a (run terms steps).b
+run_fed terms steps = run_from_fed terms start steps (fresh_joined (terms_at_a terms)) (record { into = fresh_fed (terms_at_a terms); back = fresh_fed (terms_at_b terms) })

@@ -17,11 +17,12 @@ use Rattle.mux_items.specs.Bodies.{FrameBody, ChannelFrame, frame_on, flip, fram
 use Rattle.mux_items.specs.Items.{Item, Hello, Got, Rejected, End, is_running, greeting}
 use Rattle.mux_items.specs.Due.{due, sent, got}
 use Rattle.mux_items.specs.Refusals.{is_ready, is_greeted, frame_refusal}
-use Rattle.mux_items.specs.Applying.{Allowed, apply_frame, after_frame, item_of_frame, is_refused_room, place_at}
+use Rattle.mux_items.specs.Applying.{Allowed, apply_frame, after_frame, item_of_frame, lacks_room, place_at}
 use Rattle.mux_items.specs.Parties.{party_by}
-use Rattle.mux_run.specs.Run.{Half, Ways, out, greeting_size, greet, greeted, apply_frames, whole_frames, next_frames, place_after, settled, call_refusal, item_of_call, unless_refused, called, added, is_spent, half_after}
-use Rattle.mux_run.specs.declared.steps.Call.{Call}
-use Rattle.mux_run.specs.declared.steps.Call.TheVariants as call
+use Rattle.mux_items.specs.Calls.{call_refusal, item_of_call, unless_refused, called}
+use Rattle.mux_run.specs.Run.{RunSide, SideTerms, out, greeting_size, greet, greeted, apply_frames, whole_frames, next_frames, place_after, settled, added, is_spent, side_after}
+use Rattle.mux_items.specs.declared.call.Call.{Call}
+use Rattle.mux_items.specs.declared.call.Call.TheVariants as call
 use Rattle.mux_run.specs.declared.steps.Step.{Step}
 use Rattle.mux_run.specs.declared.steps.Step.TheVariants as step
 use Rattle.mux_run.proofs.WholeFrames.{frame_texts-append, whole_front}
@@ -97,13 +98,13 @@ not_greeted : (greeting : Option Party) → is_greeted greeting ≡ false → gr
 not_greeted (Some party) e = cc
 not_greeted None e = refl
 
-greet_grown : (w : Ways) (items : List Item) → is_running items ≡ true → is_ready w.version items ≡ false → Grown w.version items (greet w ∷ items) []
+greet_grown : (w : SideTerms) (items : List Item) → is_running items ≡ true → is_ready w.version items ≡ false → Grown w.version items (greet w ∷ items) []
 greet_grown w items runs unready = elim (bytes_eq w.own w.peer) as (λ b. Grown w.version items ((if b then End (cause.Refused (place_at (greeting_size w - length w.peer)) reason.SameNonce) else Hello (party_by w.own w.peer)) ∷ items) []) [
   | true ↦ end_grown w.version _ items runs
   | false ↦ grown_item w.version (Hello (party_by w.own w.peer)) items refl (λ a. (runs, not_greeted (greeting items) (or_parts (is_three w.version) (is_greeted (greeting items)) unready).1, a))
 ]
 
-pub greeted_grown : (w : Ways) (delivered : ℕ) (items : List Item) → Grown w.version items (greeted w delivered items) []
+pub greeted_grown : (w : SideTerms) (delivered : ℕ) (items : List Item) → Grown w.version items (greeted w delivered items) []
 greeted_grown w delivered items = by (is_running items && not (is_ready w.version items) && nat_le (greeting_size w) delivered) refl
   where
     by : (b : Bool) → (is_running items && not (is_ready w.version items) && nat_le (greeting_size w) delivered) ≡ b → Grown w.version items (if b then greet w ∷ items else items) []
@@ -119,9 +120,9 @@ abbrev pub Applies : Version → ChannelFrame → List Item → List Item → Ty
 Applies v f items after = Grown v items after (f ∷ []) ⊎ (Grown v items after [] × (is_running after ≡ false))
 
 frame_item_grown : (v : Version) (place : ℕ) (c : ChannelKey) (body : FrameBody) (items : List Item) → is_running items ≡ true → frame_refusal v c body items ≡ None → Grown v items (item_of_frame v place c body items ∷ items) (frame_on c body ∷ [])
-frame_item_grown v place c body items runs ok = by (is_refused_room v body items) refl
+frame_item_grown v place c body items runs ok = by (lacks_room v body items) refl
   where
-    by : (b : Bool) → is_refused_room v body items ≡ b → Grown v items ((if b then Rejected place c body else Got place c body) ∷ items) (frame_on c body ∷ [])
+    by : (b : Bool) → lacks_room v body items ≡ b → Grown v items ((if b then Rejected place c body else Got place c body) ∷ items) (frame_on c body ∷ [])
     by true e = record { newer = Rejected place c body ∷ []; is = refl; applied = refl; allowed = λ a. (runs, ok, e, a) }
     by false e = record { newer = Got place c body ∷ []; is = refl; applied = refl; allowed = λ a. (runs, ok, e, a) }
 
@@ -182,7 +183,7 @@ drop_front (suc k) [] ys = (drop (suc k) ys, refl)
 drop_front (suc k) (x ∷ xs) ys = drop_front k xs ys
 
 -- the next frames are the first of those ahead
-pub next_front : (w : Ways) (delivered : ℕ) (items : List Item) (y : Half) (ahead : List ChannelFrame) → sent w.version y.items ≡ map flip (got items) ++ ahead
+pub next_front : (w : SideTerms) (delivered : ℕ) (items : List Item) (y : RunSide) (ahead : List ChannelFrame) → sent w.version y.items ≡ map flip (got items) ++ ahead
     → (more : List ChannelFrame) × (next_frames w delivered (length (got items)) y ++ more ≡ ahead)
 next_front w delivered items y ahead e =
     let k = length (got items) in
@@ -199,7 +200,7 @@ pub record Advances (v : Version) (before after : List Item) (ahead : List Chann
   pub are : ahead ≡ done ++ left
   pub grown : Grown v before after (map flip done)
 
-pub settled_advances : (w : Ways) (delivered : ℕ) (items : List Item) (y : Half) (ahead : List ChannelFrame) → sent w.version y.items ≡ map flip (got items) ++ ahead
+pub settled_advances : (w : SideTerms) (delivered : ℕ) (items : List Item) (y : RunSide) (ahead : List ChannelFrame) → sent w.version y.items ≡ map flip (got items) ++ ahead
     → Advances w.version items (settled w delivered items y).items ahead
 settled_advances w delivered items y ahead e = by (is_ready w.version (greeted w delivered items))
   where
@@ -224,7 +225,7 @@ settled_advances w delivered items y ahead e = by (is_ready w.version (greeted w
     by false = record { done = []; left = ahead; are = refl; grown = greeted_is }
 
 -- settling only adds items
-pub settled_grown : (w : Ways) (delivered : ℕ) (items : List Item) (y : Half) → (frames : List ChannelFrame) × Grown w.version items (settled w delivered items y).items frames
+pub settled_grown : (w : SideTerms) (delivered : ℕ) (items : List Item) (y : RunSide) → (frames : List ChannelFrame) × Grown w.version items (settled w delivered items y).items frames
 settled_grown w delivered items y =
     let after = greeted w delivered items in
     let place = place_after w (length (got after)) y in
@@ -236,12 +237,12 @@ settled_grown w delivered items y =
     ]
 
 -- a step of x only adds items
-pub half_after_grown : (w : Ways) (s : Step) (x y : Half) → (frames : List ChannelFrame) × Grown w.version x.items (half_after w s x y).items frames
-half_after_grown w (step.Call side c) x y =
+pub side_after_grown : (w : SideTerms) (s : Step) (x y : RunSide) → (frames : List ChannelFrame) × Grown w.version x.items (side_after w s x y).items frames
+side_after_grown w (step.Call side c) x y =
     let after = called w.version c x.items in
     let on = settled_grown w x.delivered after y in
     (on.0, grown_more w.version x.items after (settled w x.delivered after y).items [] on.0 (called_grown w.version c x.items) on.1)
-half_after_grown w (step.Deliver side n) x y = by (is_running x.items) refl
+side_after_grown w (step.Deliver side n) x y = by (is_running x.items) refl
   where
     within : (b : Bool) → is_running x.items ≡ true → (frames : List ChannelFrame) × Grown w.version x.items (if b then record { items = End cause.Spent ∷ x.items; delivered = x.delivered } else settled w (x.delivered + added w n x y) x.items y).items frames
     within true runs = ([], end_grown w.version cause.Spent x.items runs)
@@ -250,7 +251,7 @@ half_after_grown w (step.Deliver side n) x y = by (is_running x.items) refl
     by : (b : Bool) → is_running x.items ≡ b → (frames : List ChannelFrame) × Grown w.version x.items (if not b then x else if is_spent w n x y then record { items = End cause.Spent ∷ x.items; delivered = x.delivered } else settled w (x.delivered + added w n x y) x.items y).items frames
     by true runs = within (is_spent w n x y) runs
     by false runs = ([], grown_none w.version x.items)
-half_after_grown w (step.End side) x y = by (is_running x.items) refl
+side_after_grown w (step.End side) x y = by (is_running x.items) refl
   where
     by : (b : Bool) → is_running x.items ≡ b → (frames : List ChannelFrame) × Grown w.version x.items (if b then record { items = End cause.InputEnded ∷ x.items; delivered = x.delivered } else x).items frames
     by true runs = ([], end_grown w.version cause.InputEnded x.items runs)

@@ -8,11 +8,12 @@ use Rattle.mux_items.specs.declared.channel.ChannelKey.{ChannelKey}
 use Rattle.mux_items.specs.Bodies.{ChannelFrame, other_key, flip, frame_texts}
 use Rattle.mux_items.specs.Items.{Item, End, is_running}
 use Rattle.mux_items.specs.Due.{got}
-use Rattle.mux_run.specs.Run.{Half, World, Terms, Ways, ways_a, ways_b, turned, out, settled, called, added, is_spent, delivered_to, ended_half, half_after, side_of, happens_at, happens, fresh, start, run_from, run}
+use Rattle.mux_items.specs.Calls.{called}
+use Rattle.mux_run.specs.Run.{RunSide, World, Terms, SideTerms, terms_at_a, terms_at_b, turned, out, settled, added, is_spent, delivered_to, ended_side, side_after, side_of, happens_at, happens, fresh, start, run_from, run}
 use Rattle.mux_run.specs.Linked.{Linked, Joined}
 use Rattle.mux_run.specs.declared.steps.Side.{Side}
 use Rattle.mux_run.specs.declared.steps.Side.TheVariants.{A, B}
-use Rattle.mux_run.specs.declared.steps.Call.{Call}
+use Rattle.mux_items.specs.declared.call.Call.{Call}
 use Rattle.mux_run.specs.declared.steps.Step.{Step}
 use Rattle.mux_run.specs.declared.steps.Step.TheVariants as step
 use Rattle.mux_run.proofs.Growing.{Grown, Advances, settled_advances, called_grown, end_grown, sent_grows, out-more}
@@ -36,7 +37,7 @@ flips_flip (f ∷ fs) = ap₂ (λ g gs. g ∷ gs) (flip_flip f) (flips_flip fs)
 -- one way
 
 -- the receiver applied more of the frames ahead
-linked_receiver : (w : Ways) (x y : Half) (after : List Item) (delivered : ℕ) (l : Linked w x y) → delivered ≤ length (out w.version w.peer y.items) → Advances w.version x.items after l.ahead
+linked_receiver : (w : SideTerms) (x y : RunSide) (after : List Item) (delivered : ℕ) (l : Linked w x y) → delivered ≤ length (out w.version w.peer y.items) → Advances w.version x.items after l.ahead
     → Linked w (record { items = after; delivered = delivered }) y
 linked_receiver w x y after delivered l bound a =
     let more : map flip (got after) ≡ map flip (got x.items) ++ a.done =
@@ -49,7 +50,7 @@ linked_receiver w x y after delivered l bound a =
     }
 
 -- the sender's items grew
-linked_sender : (w : Ways) (x y y' : Half) (frames : List ChannelFrame) → Grown w.version y.items y'.items frames → Linked w x y → Linked w x y'
+linked_sender : (w : SideTerms) (x y y' : RunSide) (frames : List ChannelFrame) → Grown w.version y.items y'.items frames → Linked w x y → Linked w x y'
 linked_sender w x y y' frames g l =
     let on = sent_grows w.version y.items y'.items frames g in
     record {
@@ -64,27 +65,27 @@ linked_sender w x y y' frames g l =
 none_advances : (v : Version) (before after : List Item) (ahead : List ChannelFrame) → Grown v before after [] → Advances v before after ahead
 none_advances v before after ahead g = record { done = []; left = ahead; are = refl; grown = g }
 
-joined_after : (w : Ways) (x y : Half) (after : List Item) (delivered : ℕ) (j : Joined w x y) → delivered ≤ length (out w.version w.peer y.items) → Advances w.version x.items after j.into.ahead
+joined_after : (w : SideTerms) (x y : RunSide) (after : List Item) (delivered : ℕ) (j : Joined w x y) → delivered ≤ length (out w.version w.peer y.items) → Advances w.version x.items after j.into.ahead
     → Joined w (record { items = after; delivered = delivered }) y
 joined_after w x y after delivered j bound a = record {
   into = linked_receiver w x y after delivered j.into bound a;
   back = linked_sender (turned w) y x (record { items = after; delivered = delivered }) (map flip a.done) a.grown j.back;
 }
 
-joined_grown : (w : Ways) (x y : Half) (after : List Item) → Joined w x y → Grown w.version x.items after [] → Joined w (record { items = after; delivered = x.delivered }) y
+joined_grown : (w : SideTerms) (x y : RunSide) (after : List Item) → Joined w x y → Grown w.version x.items after [] → Joined w (record { items = after; delivered = x.delivered }) y
 joined_grown w x y after j g = joined_after w x y after x.delivered j j.into.bound (none_advances w.version x.items after j.into.ahead g)
 
-pub called_joined : (w : Ways) (c : Call) (x y : Half) → Joined w x y → Joined w (record { items = called w.version c x.items; delivered = x.delivered }) y
+pub called_joined : (w : SideTerms) (c : Call) (x y : RunSide) → Joined w x y → Joined w (record { items = called w.version c x.items; delivered = x.delivered }) y
 called_joined w c x y j = joined_grown w x y (called w.version c x.items) j (called_grown w.version c x.items)
 
-pub settled_joined : (w : Ways) (delivered : ℕ) (x y : Half) → Joined w x y → delivered ≤ length (out w.version w.peer y.items) → Joined w (settled w delivered x.items y) y
+pub settled_joined : (w : SideTerms) (delivered : ℕ) (x y : RunSide) → Joined w x y → delivered ≤ length (out w.version w.peer y.items) → Joined w (settled w delivered x.items y) y
 settled_joined w delivered x y j bound = joined_after w x y (settled w delivered x.items y).items delivered j bound (settled_advances w delivered x.items y j.into.ahead j.into.applied)
 
 -- a delivery ends within what was emitted
-pub delivery_bound : (w : Ways) (n : ℕ) (x y : Half) → x.delivered ≤ length (out w.version w.peer y.items) → x.delivered + added w n x y ≤ length (out w.version w.peer y.items)
+pub delivery_bound : (w : SideTerms) (n : ℕ) (x y : RunSide) → x.delivered ≤ length (out w.version w.peer y.items) → x.delivered + added w n x y ≤ length (out w.version w.peer y.items)
 delivery_bound w n x y h = omega (arith, length-drop x.delivered (out w.version w.peer y.items))
 
-pub delivered_joined : (w : Ways) (n : ℕ) (x y : Half) → Joined w x y → Joined w (delivered_to w n x y) y
+pub delivered_joined : (w : SideTerms) (n : ℕ) (x y : RunSide) → Joined w x y → Joined w (delivered_to w n x y) y
 delivered_joined w n x y j = by (is_running x.items) refl
   where
     within : (b : Bool) → is_running x.items ≡ true → Joined w (if b then record { items = End cause.Spent ∷ x.items; delivered = x.delivered } else settled w (x.delivered + added w n x y) x.items y) y
@@ -95,7 +96,7 @@ delivered_joined w n x y j = by (is_running x.items) refl
     by true runs = within (is_spent w n x y) runs
     by false runs = j
 
-pub ended_joined : (w : Ways) (x y : Half) → Joined w x y → Joined w (ended_half x) y
+pub ended_joined : (w : SideTerms) (x y : RunSide) → Joined w x y → Joined w (ended_side x) y
 ended_joined w x y j = by (is_running x.items) refl
   where
     by : (b : Bool) → is_running x.items ≡ b → Joined w (if b then record { items = End cause.InputEnded ∷ x.items; delivered = x.delivered } else x) y
@@ -103,36 +104,36 @@ ended_joined w x y j = by (is_running x.items) refl
     by false runs = j
 
 -- a step of x keeps both ways
-pub half_after_joined : (w : Ways) (s : Step) (x y : Half) → Joined w x y → Joined w (half_after w s x y) y
-half_after_joined w (step.Call side c) x y j =
-    let called_half : Half = record { items = called w.version c x.items; delivered = x.delivered } in
+pub side_after_joined : (w : SideTerms) (s : Step) (x y : RunSide) → Joined w x y → Joined w (side_after w s x y) y
+side_after_joined w (step.Call side c) x y j =
+    let called_half : RunSide = record { items = called w.version c x.items; delivered = x.delivered } in
     let on = called_joined w c x y j in
     settled_joined w x.delivered called_half y on on.into.bound
-half_after_joined w (step.Deliver side n) x y j = delivered_joined w n x y j
-half_after_joined w (step.End side) x y j = ended_joined w x y j
+side_after_joined w (step.Deliver side n) x y j = delivered_joined w n x y j
+side_after_joined w (step.End side) x y j = ended_joined w x y j
 
 -- the same halves, as the other side sees them
-pub turned_joined : (w : Ways) (x y : Half) → Joined w x y → Joined (turned w) y x
+pub turned_joined : (w : SideTerms) (x y : RunSide) → Joined w x y → Joined (turned w) y x
 turned_joined w x y j = record { into = j.back; back = j.into }
 
 -- runs
 
-pub happens_joined : (terms : Terms) (s : Step) (side : Side) (w : World) → Joined (ways_a terms) w.a w.b → Joined (ways_a terms) (happens_at terms side s w).a (happens_at terms side s w).b
-happens_joined terms s A w j = half_after_joined (ways_a terms) s w.a w.b j
-happens_joined terms s B w j = turned_joined (ways_b terms) (half_after (ways_b terms) s w.b w.a) w.a (half_after_joined (ways_b terms) s w.b w.a (turned_joined (ways_a terms) w.a w.b j))
+pub happens_joined : (terms : Terms) (s : Step) (side : Side) (w : World) → Joined (terms_at_a terms) w.a w.b → Joined (terms_at_a terms) (happens_at terms side s w).a (happens_at terms side s w).b
+happens_joined terms s A w j = side_after_joined (terms_at_a terms) s w.a w.b j
+happens_joined terms s B w j = turned_joined (terms_at_b terms) (side_after (terms_at_b terms) s w.b w.a) w.a (side_after_joined (terms_at_b terms) s w.b w.a (turned_joined (terms_at_a terms) w.a w.b j))
 
-pub run_from_joined : (terms : Terms) (w : World) (steps : List Step) → Joined (ways_a terms) w.a w.b → Joined (ways_a terms) (run_from terms w steps).a (run_from terms w steps).b
+pub run_from_joined : (terms : Terms) (w : World) (steps : List Step) → Joined (terms_at_a terms) w.a w.b → Joined (terms_at_a terms) (run_from terms w steps).a (run_from terms w steps).b
 run_from_joined terms w [] j = j
 run_from_joined terms w (s ∷ steps) j = run_from_joined terms (happens terms s w) steps (happens_joined terms s (side_of s) w j)
 
-pub fresh_linked : (w : Ways) → Linked w fresh fresh
+pub fresh_linked : (w : SideTerms) → Linked w fresh fresh
 fresh_linked w = record { ahead = []; applied = refl; bound = omega arith; allowed = tt }
 
-pub fresh_joined : (w : Ways) → Joined w fresh fresh
+pub fresh_joined : (w : SideTerms) → Joined w fresh fresh
 fresh_joined w = record { into = fresh_linked w; back = fresh_linked (turned w) }
 
-pub run_joined : (terms : Terms) (steps : List Step) → Joined (ways_a terms) (run terms steps).a (run terms steps).b
-run_joined terms steps = run_from_joined terms start steps (fresh_joined (ways_a terms))
+pub run_joined : (terms : Terms) (steps : List Step) → Joined (terms_at_a terms) (run terms steps).a (run terms steps).b
+run_joined terms steps = run_from_joined terms start steps (fresh_joined (terms_at_a terms))
 
 -- one more step at the end
 pub run_from-push : (terms : Terms) (w : World) (steps : List Step) (s : Step) → run_from terms w (steps ++ s ∷ []) ≡ happens terms s (run_from terms w steps)

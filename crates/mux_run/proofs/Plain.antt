@@ -15,19 +15,21 @@ use Rattle.wire_base.specs.declared.state.Cause.TheVariants as cause
 use Rattle.mux_items.specs.declared.channel.ChannelKey.{ChannelKey}
 use Rattle.mux_items.specs.Bodies.{FrameBody, ChannelFrame, flip, frame_text}
 use Rattle.mux_items.specs.Items.{Item, Hello, Got, Rejected, End, is_running}
-use Rattle.mux_items.specs.Kept.{keys, is_kept, kept_keys, own_offers, most_channels}
+use Rattle.mux_items.specs.Limits.{most_channels}
+use Rattle.mux_items.specs.Kept.{keys, is_kept, kept_keys, own_offers}
 use Rattle.mux_items.specs.Due.{got}
 use Rattle.mux_items.specs.Refusals.{frame_refusal, is_ready}
-use Rattle.mux_items.specs.Applying.{is_offer, is_refused_room, place_at, after_frame, apply_frame}
+use Rattle.mux_items.specs.Applying.{is_offer, lacks_room, place_at, after_frame, apply_frame}
+use Rattle.mux_items.specs.Calls.{call_refusal, item_of_call, unless_refused, called}
 use Rattle.mux_items.specs.Parties.{party_by}
-use Rattle.mux_run.specs.Run.{Half, World, Terms, Ways, ways_a, ways_b, greeting_size, greet, greeted, apply_frames, next_frames, place_after, settled, call_refusal, item_of_call, unless_refused, called, added, is_spent, delivered_to, half_after, side_of, happens_at, happens, start, run_from, run}
+use Rattle.mux_run.specs.Run.{RunSide, World, Terms, SideTerms, terms_at_a, terms_at_b, greeting_size, greet, greeted, apply_frames, next_frames, place_after, settled, added, is_spent, delivered_to, side_after, side_of, happens_at, happens, start, run_from, run}
 use Rattle.mux_run.specs.Linked.{Linked, Joined}
 use Rattle.mux_run.specs.Built.{AreBuilt, is_built_step, is_built_call, is_offer_step, is_offer_call}
 use Rattle.mux_run.specs.Plain.{is_plain_body, is_plain_frame, is_plain_item, ArePlain, heard_offers, IsPlainSide, IsPlainRun, IsPlainWay, IsPlainNext, begun, IsPlainStepOn}
 use Rattle.mux_run.specs.declared.steps.Side.{Side}
 use Rattle.mux_run.specs.declared.steps.Side.TheVariants.{A, B}
-use Rattle.mux_run.specs.declared.steps.Call.{Call}
-use Rattle.mux_run.specs.declared.steps.Call.TheVariants as call
+use Rattle.mux_items.specs.declared.call.Call.{Call}
+use Rattle.mux_items.specs.declared.call.Call.TheVariants as call
 use Rattle.mux_run.specs.declared.steps.Step.{Step}
 use Rattle.mux_run.specs.declared.steps.Step.TheVariants as step
 use Rattle.mux_run.proofs.Growing.{next_front, greeted_grown, apply_frames_more, apply_frames_stopped}
@@ -50,7 +52,7 @@ plain_next v items peer f fs w =
     }
 
 -- an offer finds room
-pub plain_room : (v : Version) (body : FrameBody) (items : List Item) → IsPlainNext body items → is_refused_room v body items ≡ false
+pub plain_room : (v : Version) (body : FrameBody) (items : List Item) → IsPlainNext body items → lacks_room v body items ≡ false
 plain_room v body items n = elim (cases_Bool (is_offer body)) [
   | inl e ↦ ap (λ ks. is_offer body && nat_le most_channels (length (filter (λ c. is_kept v c items) ks))) (n.first e) ∙ and_right (is_offer body) false refl
   | inr e ↦ and_left (is_offer body) (nat_le most_channels (length (kept_keys v items))) e
@@ -71,11 +73,11 @@ plain_more v place items peer f fs w = record {
 
 -- a frame that no rule refuses is applied, and one that a rule refuses ends the end
 
-pub frame_got : (v : Version) (place : ℕ) (c : ChannelKey) (body : FrameBody) (items : List Item) → is_refused_room v body items ≡ false → frame_refusal v c body items ≡ None → apply_frame v place c body items ≡ Got place c body ∷ items
+pub frame_got : (v : Version) (place : ℕ) (c : ChannelKey) (body : FrameBody) (items : List Item) → lacks_room v body items ≡ false → frame_refusal v c body items ≡ None → apply_frame v place c body items ≡ Got place c body ∷ items
 frame_got v place c body items room ok =
     ap (after_frame v place c body items) ok ∙ ap (λ b. (if b then Rejected place c body else Got place c body) ∷ items) room
 
-pub got_or_end : (v : Version) (place : ℕ) (c : ChannelKey) (body : FrameBody) (items : List Item) → is_refused_room v body items ≡ false
+pub got_or_end : (v : Version) (place : ℕ) (c : ChannelKey) (body : FrameBody) (items : List Item) → lacks_room v body items ≡ false
     → (apply_frame v place c body items ≡ Got place c body ∷ items) ⊎ ((cause : Cause) × (apply_frame v place c body items ≡ End cause ∷ items))
 got_or_end v place c body items room = by (frame_refusal v c body items) refl
   where
@@ -114,7 +116,7 @@ plain_frames v place (f ∷ fs) items peer w = elim (cases_Bool (is_running item
 -- settling
 
 -- the next frames of a peer are those of this way
-pub plain_way : (w : Ways) (delivered : ℕ) (items : List Item) (y : Half) → IsPlainWay w.version items y.items [] → IsPlainWay w.version items y.items (next_frames w delivered (length (got items)) y)
+pub plain_way : (w : SideTerms) (delivered : ℕ) (items : List Item) (y : RunSide) → IsPlainWay w.version items y.items [] → IsPlainWay w.version items y.items (next_frames w delivered (length (got items)) y)
 plain_way w delivered items y p =
     let front = next_front w delivered items y p.later p.sends in
     record { each = p.each; each_peer = p.each_peer; offers = p.offers; later = front.0; sends = p.sends ∙ ap (λ fs. map flip (got items) ++ fs) (sym front.1) }
@@ -129,7 +131,7 @@ same_way v items after peer same s w = record {
   sends = w.sends ∙ ap (λ fs. map flip fs ++ w.later) (sym same);
 }
 
-pub plain_greeted : (w : Ways) (delivered : ℕ) (items : List Item) → ArePlain items → StaysPlain items (greeted w delivered items)
+pub plain_greeted : (w : SideTerms) (delivered : ℕ) (items : List Item) → ArePlain items → StaysPlain items (greeted w delivered items)
 plain_greeted w delivered items e = elim (is_running items && not (is_ready w.version items) && nat_le (greeting_size w) delivered) as (λ b. StaysPlain items (if b then greet w ∷ items else items)) [
   | true ↦ elim (bytes_eq w.own w.peer) as (λ b. StaysPlain items ((if b then End (cause.Refused (place_at (greeting_size w - length w.peer)) reason.SameNonce) else Hello (party_by w.own w.peer)) ∷ items)) [
     | true ↦ stays_end (cause.Refused (place_at (greeting_size w - length w.peer)) reason.SameNonce) items e
@@ -138,7 +140,7 @@ plain_greeted w delivered items e = elim (is_running items && not (is_ready w.ve
   | false ↦ stays_same items e
 ]
 
-pub plain_settled : (w : Ways) (delivered : ℕ) (items : List Item) (y : Half) → IsPlainWay w.version items y.items [] → StaysPlain items (settled w delivered items y).items
+pub plain_settled : (w : SideTerms) (delivered : ℕ) (items : List Item) (y : RunSide) → IsPlainWay w.version items y.items [] → StaysPlain items (settled w delivered items y).items
 plain_settled w delivered items y p =
     let after = greeted w delivered items in
     let g = greeted_grown w delivered items in
@@ -153,7 +155,7 @@ plain_settled w delivered items y p =
     ]
 
 -- the way into x
-pub linked_way : (w : Ways) (x y : Half) → Linked w x y → ArePlain x.items → ArePlain y.items → own_offers x.items + own_offers y.items ≤ 1 → IsPlainWay w.version x.items y.items []
+pub linked_way : (w : SideTerms) (x y : RunSide) → Linked w x y → ArePlain x.items → ArePlain y.items → own_offers x.items + own_offers y.items ≤ 1 → IsPlainWay w.version x.items y.items []
 linked_way w x y l plain plain_peer one = record { each = plain; each_peer = plain_peer; offers = one; later = l.ahead; sends = l.applied }
 
 -- a step
@@ -179,7 +181,7 @@ plain_called v c items built e = elim (call_refusal v c items) as (λ r. CalledP
     by (call.Complete key) built = cc
     by (call.Terminate key) built = cc
 
-pub plain_delivered : (w : Ways) (n : ℕ) (x y : Half) → IsPlainWay w.version x.items y.items [] → StaysPlain x.items (delivered_to w n x y).items
+pub plain_delivered : (w : SideTerms) (n : ℕ) (x y : RunSide) → IsPlainWay w.version x.items y.items [] → StaysPlain x.items (delivered_to w n x y).items
 plain_delivered w n x y p = elim (is_running x.items) as (λ b. StaysPlain x.items (if not b then x else if is_spent w n x y then record { items = End cause.Spent ∷ x.items; delivered = x.delivered } else settled w (x.delivered + added w n x y) x.items y).items) [
   | true ↦ elim (is_spent w n x y) as (λ b. StaysPlain x.items (if b then record { items = End cause.Spent ∷ x.items; delivered = x.delivered } else settled w (x.delivered + added w n x y) x.items y).items) [
     | true ↦ stays_end cause.Spent x.items p.each
@@ -193,7 +195,7 @@ pub record StepPlain (s : Step) (before after : List Item) : Type 0 where
   pub own : own_offers after ≤ own_offers before + one_if (is_offer_step s)
 
 -- the way into x as a step of x settles
-pub plain_begun : (w : Ways) (s : Step) (x y : Half) → Joined w x y → is_built_step s ≡ true → ArePlain x.items → ArePlain y.items → own_offers x.items + one_if (is_offer_step s) + own_offers y.items ≤ 1
+pub plain_begun : (w : SideTerms) (s : Step) (x y : RunSide) → Joined w x y → is_built_step s ≡ true → ArePlain x.items → ArePlain y.items → own_offers x.items + one_if (is_offer_step s) + own_offers y.items ≤ 1
     → IsPlainWay w.version (begun w.version s x.items) y.items []
 plain_begun w (step.Call side c) x y j built plain plain_peer one =
     let p = plain_called w.version c x.items built plain in
@@ -201,16 +203,16 @@ plain_begun w (step.Call side c) x y j built plain plain_peer one =
 plain_begun w (step.Deliver side n) x y j built plain plain_peer one = linked_way w x y j.into plain plain_peer (omega arith)
 plain_begun w (step.End side) x y j built plain plain_peer one = linked_way w x y j.into plain plain_peer (omega arith)
 
-pub half_after_plain : (w : Ways) (s : Step) (x y : Half) → Joined w x y → is_built_step s ≡ true → ArePlain x.items → ArePlain y.items → own_offers x.items + one_if (is_offer_step s) + own_offers y.items ≤ 1
-    → StepPlain s x.items (half_after w s x y).items
-half_after_plain w (step.Call side c) x y j built plain plain_peer one =
+pub side_after_plain : (w : SideTerms) (s : Step) (x y : RunSide) → Joined w x y → is_built_step s ≡ true → ArePlain x.items → ArePlain y.items → own_offers x.items + one_if (is_offer_step s) + own_offers y.items ≤ 1
+    → StepPlain s x.items (side_after w s x y).items
+side_after_plain w (step.Call side c) x y j built plain plain_peer one =
     let p = plain_called w.version c x.items built plain in
     let on = plain_settled w x.delivered (called w.version c x.items) y (plain_begun w (step.Call side c) x y j built plain plain_peer one) in
     record { each = on.each; own = omega (arith, on.own, p.own) }
-half_after_plain w (step.Deliver side n) x y j built plain plain_peer one =
+side_after_plain w (step.Deliver side n) x y j built plain plain_peer one =
     let on = plain_delivered w n x y (plain_begun w (step.Deliver side n) x y j built plain plain_peer one) in
     record { each = on.each; own = omega (arith, on.own) }
-half_after_plain w (step.End side) x y j built plain plain_peer one = cc
+side_after_plain w (step.End side) x y j built plain plain_peer one = cc
 
 -- runs
 
@@ -219,16 +221,16 @@ pub record PlainWorld (n : ℕ) (w : World) : Type 0 where
   pub b : ArePlain w.b.items
   pub offers : own_offers w.a.items + own_offers w.b.items ≤ n
 
-happens_plain : (terms : Terms) (side : Side) (s : Step) (w : World) (n : ℕ) → Joined (ways_a terms) w.a w.b → PlainWorld n w → is_built_step s ≡ true → n + one_if (is_offer_step s) ≤ 1
+happens_plain : (terms : Terms) (side : Side) (s : Step) (w : World) (n : ℕ) → Joined (terms_at_a terms) w.a w.b → PlainWorld n w → is_built_step s ≡ true → n + one_if (is_offer_step s) ≤ 1
     → PlainWorld (n + one_if (is_offer_step s)) (happens_at terms side s w)
 happens_plain terms A s w n j p built one =
-    let on = half_after_plain (ways_a terms) s w.a w.b j built p.a p.b (omega (arith, p.offers)) in
+    let on = side_after_plain (terms_at_a terms) s w.a w.b j built p.a p.b (omega (arith, p.offers)) in
     record { a = on.each; b = p.b; offers = omega (arith, on.own, p.offers) }
 happens_plain terms B s w n j p built one =
-    let on = half_after_plain (ways_b terms) s w.b w.a (turned_joined (ways_a terms) w.a w.b j) built p.b p.a (omega (arith, p.offers)) in
+    let on = side_after_plain (terms_at_b terms) s w.b w.a (turned_joined (terms_at_a terms) w.a w.b j) built p.b p.a (omega (arith, p.offers)) in
     record { a = p.a; b = on.each; offers = omega (arith, on.own, p.offers) }
 
-run_from_plain : (terms : Terms) (w : World) (steps : List Step) (n : ℕ) → Joined (ways_a terms) w.a w.b → PlainWorld n w → list_all is_built_step steps ≡ true → n + count_by is_offer_step steps ≤ 1
+run_from_plain : (terms : Terms) (w : World) (steps : List Step) (n : ℕ) → Joined (terms_at_a terms) w.a w.b → PlainWorld n w → list_all is_built_step steps ≡ true → n + count_by is_offer_step steps ≤ 1
     → PlainWorld (n + count_by is_offer_step steps) (run_from terms w steps)
 run_from_plain terms w [] n j p built one = record { a = p.a; b = p.b; offers = omega (arith, p.offers) }
 run_from_plain terms w (s ∷ steps) n j p built one =
@@ -240,11 +242,11 @@ run_from_plain terms w (s ∷ steps) n j p built one =
 
 pub run_plain : (terms : Terms) (steps : List Step) → AreBuilt steps → PlainWorld (count_by is_offer_step steps) (run terms steps)
 run_plain terms steps built =
-    let on = run_from_plain terms start steps 0 (fresh_joined (ways_a terms)) (record { a = refl; b = refl; offers = omega arith }) built.each (omega (arith, built.one_offer)) in
+    let on = run_from_plain terms start steps 0 (fresh_joined (terms_at_a terms)) (record { a = refl; b = refl; offers = omega arith }) built.each (omega (arith, built.one_offer)) in
     record { a = on.a; b = on.b; offers = omega (arith, on.offers) }
 
 -- what came to x was offered by y
-pub heard_own : (w : Ways) (x y : Half) → Linked w x y → ArePlain y.items → heard_offers x.items ≤ own_offers y.items
+pub heard_own : (w : SideTerms) (x y : RunSide) → Linked w x y → ArePlain y.items → heard_offers x.items ≤ own_offers y.items
 heard_own w x y l plain_peer =
     let front = map flip (got x.items) in
     omega (arith, heard_got x.items, offers-flip (got x.items), offers-append front l.ahead, ap offers l.applied, sent_offers w.version y.items plain_peer)
@@ -256,8 +258,8 @@ built_run terms steps built =
     let p = run_plain terms steps built in
     let j = run_joined terms steps in
     record {
-      a = record { each = p.a; heard = heard_own (ways_a terms) w.a w.b j.into p.b };
-      b = record { each = p.b; heard = heard_own (ways_b terms) w.b w.a j.back p.a };
+      a = record { each = p.a; heard = heard_own (terms_at_a terms) w.a w.b j.into p.b };
+      b = record { each = p.b; heard = heard_own (terms_at_b terms) w.b w.a j.back p.a };
       offers = p.offers;
     }
 
@@ -285,15 +287,15 @@ no_keys there s items p one e =
     let more : one_if (is_offer_step s) ≡ 1 = ap one_if e in
     nil_from_length (keys items) (omega (arith, plain_keys there items p, one, more))
 
-built_step_on : (terms : Terms) (side : Side) (steps : List Step) (s : Step) (w : World) → Joined (ways_a terms) w.a w.b → IsPlainRun steps w → is_built_step s ≡ true
+built_step_on : (terms : Terms) (side : Side) (steps : List Step) (s : Step) (w : World) → Joined (terms_at_a terms) w.a w.b → IsPlainRun steps w → is_built_step s ≡ true
     → count_by is_offer_step steps + one_if (is_offer_step s) ≤ 1 → IsPlainStepOn terms side s w
 built_step_on terms A steps s w j p built one = record {
-  way = plain_begun (ways_a terms) s w.a w.b j built p.a.each p.b.each (omega (arith, p.offers));
+  way = plain_begun (terms_at_a terms) s w.a w.b j built p.a.each p.b.each (omega (arith, p.offers));
   first = no_keys (own_offers w.b.items) s w.a.items p.a (omega (arith, p.offers));
   first_peer = no_keys (own_offers w.a.items) s w.b.items p.b (omega (arith, p.offers));
 }
 built_step_on terms B steps s w j p built one = record {
-  way = plain_begun (ways_b terms) s w.b w.a (turned_joined (ways_a terms) w.a w.b j) built p.b.each p.a.each (omega (arith, p.offers));
+  way = plain_begun (terms_at_b terms) s w.b w.a (turned_joined (terms_at_a terms) w.a w.b j) built p.b.each p.a.each (omega (arith, p.offers));
   first = no_keys (own_offers w.a.items) s w.b.items p.b (omega (arith, p.offers));
   first_peer = no_keys (own_offers w.b.items) s w.a.items p.a (omega (arith, p.offers));
 }

@@ -11,7 +11,7 @@ use Rattle.mux_items.proofs.Emission.{contents-append, sent_front}
 use Rattle.mux_items.proofs.Keys.{same_key_other}
 use Rattle.mux_items.proofs.Taking.{taken_front}
 use Rattle.mux_items.proofs.Window.{unread_window}
-use Rattle.mux_run.specs.Run.{Half, World, Terms, Ways, ways_a, ways_b, run}
+use Rattle.mux_run.specs.Run.{RunSide, World, Terms, SideTerms, terms_at_a, terms_at_b, run}
 use Rattle.mux_run.specs.Linked.{Linked, Joined}
 use Rattle.mux_run.specs.Safe.{IsPrefixOf, IsSafeWay, IsSafe, IsSafeRun}
 use Rattle.mux_run.specs.declared.steps.Step.{Step}
@@ -28,7 +28,7 @@ contents-flip c (f ∷ fs) =
     ∙ ap (λ bs. content_on c f ++ bs) (contents-flip c fs)
 
 -- what x took of a channel is a front of what y emitted
-taken_prefix : (w : Ways) (c : ChannelKey) (x y : Half) → Linked w x y → IsPrefixOf (taken w.version c x.items) (take (emitted w.version (other_key c) y.items) (written (other_key c) y.items))
+taken_prefix : (w : SideTerms) (c : ChannelKey) (x y : RunSide) → Linked w x y → IsPrefixOf (taken w.version c x.items) (take (emitted w.version (other_key c) y.items) (written (other_key c) y.items))
 taken_prefix w c x y l =
     let front = taken_front w.version c x.items l.allowed in
     let ahead = contents (other_key c) l.ahead in
@@ -37,7 +37,7 @@ taken_prefix w c x y l =
     ∙ (ap (contents (other_key c)) (sym l.applied) ∙ sent_front w.version (other_key c) y.items)) in
     (front.0 ++ ahead, sym (append_assoc (taken w.version c x.items) front.0 ahead) ∙ (ap (λ bs. bs ++ ahead) front.1 ∙ emitted_is))
 
-pub linked_safe : (w : Ways) (c : ChannelKey) (x y : Half) → Linked w x y → IsSafeWay w.version c x y
+pub linked_safe : (w : SideTerms) (c : ChannelKey) (x y : RunSide) → Linked w x y → IsSafeWay w.version c x y
 linked_safe w c x y l = record {
   prefix_property = record {
     handed = take_prefix (handed w.version c x.items) (taken w.version c x.items);
@@ -48,10 +48,10 @@ linked_safe w c x y l = record {
   isolation = emitted-restricted w.version c x.items;
 }
 
-pub joined_safe : (terms : Terms) (w : World) → Joined (ways_a terms) w.a w.b → IsSafe terms.version w
+pub joined_safe : (terms : Terms) (w : World) → Joined (terms_at_a terms) w.a w.b → IsSafe terms.version w
 joined_safe terms w j = record {
-  to_a = λ c. linked_safe (ways_a terms) c w.a w.b j.into;
-  to_b = λ c. linked_safe (ways_b terms) c w.b w.a j.back;
+  to_a = λ c. linked_safe (terms_at_a terms) c w.a w.b j.into;
+  to_b = λ c. linked_safe (terms_at_b terms) c w.b w.a j.back;
 }
 
 pub run_safe : (terms : Terms) (steps : List Step) → IsSafeRun terms steps

@@ -6,21 +6,21 @@ use Rattle.wire_base.specs.declared.frame.Version.{Version}
 use Rattle.frame_text.specs.Hello.{hello}
 use Rattle.mux_items.specs.Bodies.{ChannelFrame, frame_text, frame_texts}
 use Rattle.mux_items.specs.Due.{sent}
-use Rattle.mux_run.specs.Run.{Half, Ways, out, greeting_size, whole_frames, next_frames, place_after}
+use Rattle.mux_run.specs.Run.{RunSide, SideTerms, out, greeting_size, whole_frames, next_frames, place_after}
 use Rattle.mux_run.specs.Cuts.{IsCut}
 use Rattle.mux_run.proofs.WholeFrames.{frame_texts-append, take-append-ge, take_whole, cut_after, drop_next, take_next}
 
 -- fewer bytes than the handshake
-pub stream_short : (w : Ways) (given : ℕ) (y : Half) → given ≤ greeting_size w → take given (out w.version w.peer y.items) ≡ take given (hello w.version w.peer)
+pub stream_short : (w : SideTerms) (given : ℕ) (y : RunSide) → given ≤ greeting_size w → take given (out w.version w.peer y.items) ≡ take given (hello w.version w.peer)
 stream_short w given y h = take-append-le given (hello w.version w.peer) (frame_texts w.version (sent w.version y.items)) h
 
 -- the handshake and then bytes of frames
-pub stream_front : (w : Ways) (given : ℕ) (y : Half) → greeting_size w ≤ given
+pub stream_front : (w : SideTerms) (given : ℕ) (y : RunSide) → greeting_size w ≤ given
     → take given (out w.version w.peer y.items) ≡ hello w.version w.peer ++ take (given - greeting_size w) (frame_texts w.version (sent w.version y.items))
 stream_front w given y h = take-append-ge given (hello w.version w.peer) (frame_texts w.version (sent w.version y.items)) h
 
 -- the bytes after the handshake and k whole frames are the next frames' texts, and then a part of the frame after them
-pub stream_cut : (w : Ways) (given k : ℕ) (y : Half) → greeting_size w ≤ given → k ≤ length (whole_frames w.version (given - greeting_size w) (sent w.version y.items))
+pub stream_cut : (w : SideTerms) (given k : ℕ) (y : RunSide) → greeting_size w ≤ given → k ≤ length (whole_frames w.version (given - greeting_size w) (sent w.version y.items))
     → IsCut w.version (drop (place_after w k y) (take given (out w.version w.peer y.items))) (next_frames w given k y) (drop (length (whole_frames w.version (given - greeting_size w) (sent w.version y.items))) (sent w.version y.items))
 stream_cut w given k y h within =
     let front = hello w.version w.peer in
@@ -39,12 +39,12 @@ cut_more v bytes f fs others c =
 
 -- one more frame is applied
 
-pub next_frames_more : (w : Ways) (given k : ℕ) (y : Half) (f : ChannelFrame) (fs : List ChannelFrame) → next_frames w given k y ≡ f ∷ fs → next_frames w given (k + 1) y ≡ fs
+pub next_frames_more : (w : SideTerms) (given k : ℕ) (y : RunSide) (f : ChannelFrame) (fs : List ChannelFrame) → next_frames w given k y ≡ f ∷ fs → next_frames w given (k + 1) y ≡ fs
 next_frames_more w given k y f fs e =
     let whole = whole_frames w.version (given - greeting_size w) (sent w.version y.items) in
     ap (λ n. drop n whole) (add-one k) ∙ drop_next k whole f fs e
 
-pub place_after_more : (w : Ways) (given k : ℕ) (y : Half) (f : ChannelFrame) (fs : List ChannelFrame) → next_frames w given k y ≡ f ∷ fs → place_after w (k + 1) y ≡ place_after w k y + length (frame_text w.version f)
+pub place_after_more : (w : SideTerms) (given k : ℕ) (y : RunSide) (f : ChannelFrame) (fs : List ChannelFrame) → next_frames w given k y ≡ f ∷ fs → place_after w (k + 1) y ≡ place_after w k y + length (frame_text w.version f)
 place_after_more w given k y f fs e =
     let n = given - greeting_size w in
     let frames = sent w.version y.items in
@@ -57,7 +57,7 @@ place_after_more w given k y f fs e =
     omega (arith, ap length texts, length-append (frame_texts w.version (take k frames)) (frame_text w.version f))
 
 -- so many frames as were applied, and more whole frames, are not above the whole ones
-pub next_frames_within : (w : Ways) (given k : ℕ) (y : Half) (f : ChannelFrame) (fs : List ChannelFrame) → next_frames w given k y ≡ f ∷ fs → k + 1 ≤ length (whole_frames w.version (given - greeting_size w) (sent w.version y.items))
+pub next_frames_within : (w : SideTerms) (given k : ℕ) (y : RunSide) (f : ChannelFrame) (fs : List ChannelFrame) → next_frames w given k y ≡ f ∷ fs → k + 1 ≤ length (whole_frames w.version (given - greeting_size w) (sent w.version y.items))
 next_frames_within w given k y f fs e =
     let whole = whole_frames w.version (given - greeting_size w) (sent w.version y.items) in
     let size : length whole - k ≡ suc (length fs) = sym (length-drop k whole) ∙ ap length e in

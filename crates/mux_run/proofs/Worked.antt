@@ -8,7 +8,7 @@ use Rattle.mux_items.specs.declared.channel.MuxEvent.TheVariants as happened
 use Rattle.mux_run.specs.Run.{Terms, run}
 use Rattle.mux_run.specs.Answers.{answer}
 use Rattle.mux_run.specs.declared.steps.Side.TheVariants.{A, B}
-use Rattle.mux_run.specs.declared.steps.Call.TheVariants as call
+use Rattle.mux_items.specs.declared.call.Call.TheVariants as call
 use Rattle.mux_run.specs.declared.steps.Step.{Step}
 use Rattle.mux_run.specs.declared.steps.Step.TheVariants as step
 use Rattle.mux_run.specs.declared.answers.Reply.TheVariants as reply

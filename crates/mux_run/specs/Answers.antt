@@ -7,11 +7,12 @@ use Rattle.mux_items.specs.Items.{Item, End, is_running}
 use Rattle.mux_items.specs.Kept.{next_key}
 use Rattle.mux_items.specs.Lists.{unread}
 use Rattle.mux_items.specs.Applying.{event_of}
-use Rattle.mux_run.specs.Run.{Half, World, Terms, Ways, ways_a, ways_b, call_refusal, added, is_spent, half_after, side_of}
+use Rattle.mux_items.specs.Calls.{call_refusal}
+use Rattle.mux_run.specs.Run.{RunSide, World, Terms, SideTerms, terms_at_a, terms_at_b, added, is_spent, side_after, side_of}
 use Rattle.mux_run.specs.declared.steps.Side.{Side}
 use Rattle.mux_run.specs.declared.steps.Side.TheVariants.{A, B}
-use Rattle.mux_run.specs.declared.steps.Call.{Call}
-use Rattle.mux_run.specs.declared.steps.Call.TheVariants as call
+use Rattle.mux_items.specs.declared.call.Call.{Call}
+use Rattle.mux_items.specs.declared.call.Call.TheVariants as call
 use Rattle.mux_run.specs.declared.steps.Step.{Step}
 use Rattle.mux_run.specs.declared.steps.Step.TheVariants as step
 use Rattle.mux_run.specs.declared.answers.Reply.{Reply}
@@ -52,20 +53,20 @@ abbrev pub reply_to : Version → Call → List Item → Reply
 reply_to v c items = refused_or (call_refusal v c items) (success v c items)
 
 -- how many bytes a delivery of at most n to x answers
-abbrev pub delivered_count : Ways → (n : ℕ) → Half → Half → ℕ
+abbrev pub delivered_count : SideTerms → (n : ℕ) → RunSide → RunSide → ℕ
 delivered_count w n x y = if not (is_running x.items) then 0 else if is_spent w n x y then 0 else added w n x y
 
 -- what a step at x answers
-abbrev pub answer_at : Ways → Step → Half → Half → DuoAnswer
+abbrev pub answer_at : SideTerms → Step → RunSide → RunSide → DuoAnswer
 answer_at w (step.Call side c) x y =
-    duo.Replied (reply_to w.version c x.items) (events_since w.version (length x.items) (half_after w (step.Call side c) x y).items)
+    duo.Replied (reply_to w.version c x.items) (events_since w.version (length x.items) (side_after w (step.Call side c) x y).items)
 answer_at w (step.Deliver side n) x y =
-    duo.Delivered (delivered_count w n x y) (events_since w.version (length x.items) (half_after w (step.Deliver side n) x y).items)
+    duo.Delivered (delivered_count w n x y) (events_since w.version (length x.items) (side_after w (step.Deliver side n) x y).items)
 answer_at w (step.End side) x y = duo.Ended
 
 abbrev pub answer_on : Terms → Side → Step → World → DuoAnswer
-answer_on terms A s w = answer_at (ways_a terms) s w.a w.b
-answer_on terms B s w = answer_at (ways_b terms) s w.b w.a
+answer_on terms A s w = answer_at (terms_at_a terms) s w.a w.b
+answer_on terms B s w = answer_at (terms_at_b terms) s w.b w.a
 
 -- what a step answers, made in this world
 abbrev pub answer : Terms → Step → World → DuoAnswer

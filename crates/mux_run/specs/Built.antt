@@ -1,8 +1,8 @@
 -- The steps that this stage of the program runs: one channel, offered by either side, that stays open.
 use Rattle.std.specs.Prelude.{◌≡◌, ◌≤◌, List, Bool, true, false, count_by}
 use Rattle.std.specs.List.{list_all}
-use Rattle.mux_run.specs.declared.steps.Call.{Call}
-use Rattle.mux_run.specs.declared.steps.Call.TheVariants as call
+use Rattle.mux_items.specs.declared.call.Call.{Call}
+use Rattle.mux_items.specs.declared.call.Call.TheVariants as call
 use Rattle.mux_run.specs.declared.steps.Step.{Step}
 use Rattle.mux_run.specs.declared.steps.Step.TheVariants as step
 

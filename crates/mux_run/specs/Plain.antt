@@ -11,7 +11,8 @@ use Rattle.mux_run.specs.declared.steps.Step.{Step}
 use Rattle.mux_run.specs.declared.steps.Step.TheVariants as step
 use Rattle.mux_run.specs.declared.steps.Side.{Side}
 use Rattle.mux_run.specs.declared.steps.Side.TheVariants.{A, B}
-use Rattle.mux_run.specs.Run.{Half, World, Terms, Ways, ways_a, ways_b, called}
+use Rattle.mux_items.specs.Calls.{called}
+use Rattle.mux_run.specs.Run.{RunSide, World, Terms, SideTerms, terms_at_a, terms_at_b}
 use Rattle.mux_run.specs.Built.{is_offer_step}
 
 -- a body that ends nothing
@@ -79,11 +80,11 @@ begun v (step.Deliver side n) items = items
 begun v (step.End side) items = items
 
 -- at a step of x the way into x, and that an offer is the first
-pub record IsPlainStep (w : Ways) (s : Step) (x y : Half) : Type 0 where
+pub record IsPlainStep (w : SideTerms) (s : Step) (x y : RunSide) : Type 0 where
   pub way : IsPlainWay w.version (begun w.version s x.items) y.items []
   pub first : is_offer_step s ≡ true → keys x.items ≡ []
   pub first_peer : is_offer_step s ≡ true → keys y.items ≡ []
 
 abbrev pub IsPlainStepOn : Terms → Side → Step → World → Type 0
-IsPlainStepOn terms A s w = IsPlainStep (ways_a terms) s w.a w.b
-IsPlainStepOn terms B s w = IsPlainStep (ways_b terms) s w.b w.a
+IsPlainStepOn terms A s w = IsPlainStep (terms_at_a terms) s w.a w.b
+IsPlainStepOn terms B s w = IsPlainStep (terms_at_b terms) s w.b w.a

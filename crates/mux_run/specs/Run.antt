@@ -10,24 +10,25 @@ use Rattle.mux_items.specs.Items.{Item, Hello, DidOffer, DidAccept, DidWrite, Di
 use Rattle.mux_items.specs.Parties.{party_by}
 use Rattle.mux_items.specs.Kept.{next_key}
 use Rattle.mux_items.specs.Due.{sent, got}
-use Rattle.mux_items.specs.Refusals.{is_ready, most_bytes, offer_refusal, accept_refusal, write_refusal, read_refusal, complete_refusal, terminate_refusal}
+use Rattle.mux_items.specs.Limits.{most_bytes}
+use Rattle.mux_items.specs.Refusals.{is_ready, offer_refusal, accept_refusal, write_refusal, read_refusal, complete_refusal, terminate_refusal}
 use Rattle.mux_items.specs.Applying.{apply_frame, place_at}
 use Rattle.wire_base.specs.declared.refusal.Refusal.{Refusal}
 use Rattle.mux_run.specs.declared.steps.Side.{Side}
 use Rattle.mux_run.specs.declared.steps.Side.TheVariants.{A, B}
-use Rattle.mux_run.specs.declared.steps.Call.{Call}
-use Rattle.mux_run.specs.declared.steps.Call.TheVariants as call
+use Rattle.mux_items.specs.declared.call.Call.{Call}
+use Rattle.mux_items.specs.declared.call.Call.TheVariants as call
 use Rattle.mux_run.specs.declared.steps.Step.{Step}
 use Rattle.mux_run.specs.declared.steps.Step.TheVariants as step
 
 -- one side: its items, newest first, and how many of the other side's bytes were given to it
-pub record Half : Type 0 where
+pub record RunSide : Type 0 where
   pub items : List Item
   pub delivered : ℕ
 
 pub record World : Type 0 where
-  pub a : Half
-  pub b : Half
+  pub a : RunSide
+  pub b : RunSide
 
 -- the version, and the nonce of each side
 pub record Terms : Type 0 where
@@ -40,18 +41,18 @@ abbrev pub terms_of : Version → (nonces : List (List ℕ)) → Terms
 terms_of v nonces = record { version = v; nonce_a = slice_index_or nonces 0 []; nonce_b = slice_index_or nonces 1 [] }
 
 -- the same terms as the side X of a pair X, Y sees them
-pub record Ways : Type 0 where
+pub record SideTerms : Type 0 where
   pub version : Version
   pub own : List ℕ
   pub peer : List ℕ
 
-abbrev pub ways_a : Terms → Ways
-ways_a terms = record { version = terms.version; own = terms.nonce_a; peer = terms.nonce_b }
+abbrev pub terms_at_a : Terms → SideTerms
+terms_at_a terms = record { version = terms.version; own = terms.nonce_a; peer = terms.nonce_b }
 
-abbrev pub ways_b : Terms → Ways
-ways_b terms = record { version = terms.version; own = terms.nonce_b; peer = terms.nonce_a }
+abbrev pub terms_at_b : Terms → SideTerms
+terms_at_b terms = record { version = terms.version; own = terms.nonce_b; peer = terms.nonce_a }
 
-abbrev pub turned : Ways → Ways
+abbrev pub turned : SideTerms → SideTerms
 turned w = record { version = w.version; own = w.peer; peer = w.own }
 
 -- all bytes that a side with this nonce has emitted: its handshake, and the texts of all frames that were due
@@ -59,11 +60,11 @@ abbrev pub out : Version → (nonce : List ℕ) → List Item → List ℕ
 out v nonce items = hello v nonce ++ frame_texts v (sent v items)
 
 -- how long the peer's handshake is
-abbrev pub greeting_size : Ways → ℕ
+abbrev pub greeting_size : SideTerms → ℕ
 greeting_size w = length (hello w.version w.peer)
 
 -- the bytes on their way to x, whose peer y is
-abbrev pub in_flight : Ways → Half → Half → List ℕ
+abbrev pub in_flight : SideTerms → RunSide → RunSide → List ℕ
 in_flight w x y = drop x.delivered (out w.version w.peer y.items)
 
 -- the frames whose texts lie whole in the first n bytes of all their texts
@@ -72,13 +73,13 @@ whole_frames v n [] = []
 whole_frames v n (f ∷ fs) = if nat_le (length (frame_text v f)) n then f ∷ whole_frames v (n - length (frame_text v f)) fs else []
 
 -- the item of the peer's whole handshake: nonces must differ
-abbrev pub greet : Ways → Item
+abbrev pub greet : SideTerms → Item
 greet w =
     if bytes_eq w.own w.peer then End (cause.Refused (place_at (greeting_size w - length w.peer)) reason.SameNonce)
     else Hello (party_by w.own w.peer)
 
 -- the handshake is applied once it is whole
-abbrev pub greeted : Ways → (delivered : ℕ) → List Item → List Item
+abbrev pub greeted : SideTerms → (delivered : ℕ) → List Item → List Item
 greeted w delivered items =
     if is_running items && not (is_ready w.version items) && nat_le (greeting_size w) delivered then greet w ∷ items else items
 
@@ -91,15 +92,15 @@ apply_frames v place (f ∷ fs) items =
     else items
 
 -- the whole frames of the delivered bytes that weren't applied yet
-abbrev pub next_frames : Ways → (delivered : ℕ) → (applied : ℕ) → Half → List ChannelFrame
+abbrev pub next_frames : SideTerms → (delivered : ℕ) → (applied : ℕ) → RunSide → List ChannelFrame
 next_frames w delivered applied y = drop applied (whole_frames w.version (delivered - greeting_size w) (sent w.version y.items))
 
 -- the place of the frame after so many of y's
-abbrev pub place_after : Ways → (applied : ℕ) → Half → ℕ
+abbrev pub place_after : SideTerms → (applied : ℕ) → RunSide → ℕ
 place_after w applied y = greeting_size w + length (frame_texts w.version (take applied (sent w.version y.items)))
 
 -- x applies what is whole of the first so many bytes of y
-abbrev pub settled : Ways → (delivered : ℕ) → List Item → Half → Half
+abbrev pub settled : SideTerms → (delivered : ℕ) → List Item → RunSide → RunSide
 settled w delivered items y =
     let after = greeted w delivered items in
     record {
@@ -136,28 +137,28 @@ abbrev pub called : Version → Call → List Item → List Item
 called v c items = unless_refused (call_refusal v c items) (item_of_call c items) items
 
 -- how many bytes a delivery of at most n adds
-abbrev pub added : Ways → (n : ℕ) → Half → Half → ℕ
+abbrev pub added : SideTerms → (n : ℕ) → RunSide → RunSide → ℕ
 added w n x y = min n (length (in_flight w x y))
 
 -- a delivery that would pass the most bytes that an end is fed
-abbrev pub is_spent : Ways → (n : ℕ) → Half → Half → Bool
+abbrev pub is_spent : SideTerms → (n : ℕ) → RunSide → RunSide → Bool
 is_spent w n x y = nat_lt most_bytes (x.delivered + added w n x y)
 
 -- what a delivery makes of the side x that it goes to
-abbrev pub delivered_to : Ways → (n : ℕ) → Half → Half → Half
+abbrev pub delivered_to : SideTerms → (n : ℕ) → RunSide → RunSide → RunSide
 delivered_to w n x y =
     if not (is_running x.items) then x
     else if is_spent w n x y then record { items = End cause.Spent ∷ x.items; delivered = x.delivered }
     else settled w (x.delivered + added w n x y) x.items y
 
-abbrev pub ended_half : Half → Half
-ended_half x = if is_running x.items then record { items = End cause.InputEnded ∷ x.items; delivered = x.delivered } else x
+abbrev pub ended_side : RunSide → RunSide
+ended_side x = if is_running x.items then record { items = End cause.InputEnded ∷ x.items; delivered = x.delivered } else x
 
 -- what a step makes of its side x
-abbrev pub half_after : Ways → Step → Half → Half → Half
-half_after w (step.Call side c) x y = settled w x.delivered (called w.version c x.items) y
-half_after w (step.Deliver side n) x y = delivered_to w n x y
-half_after w (step.End side) x y = ended_half x
+abbrev pub side_after : SideTerms → Step → RunSide → RunSide → RunSide
+side_after w (step.Call side c) x y = settled w x.delivered (called w.version c x.items) y
+side_after w (step.Deliver side n) x y = delivered_to w n x y
+side_after w (step.End side) x y = ended_side x
 
 abbrev pub side_of : Step → Side
 side_of (step.Call side c) = side
@@ -165,13 +166,13 @@ side_of (step.Deliver side n) = side
 side_of (step.End side) = side
 
 abbrev pub happens_at : Terms → Side → Step → World → World
-happens_at terms A s w = record { a = half_after (ways_a terms) s w.a w.b; b = w.b }
-happens_at terms B s w = record { a = w.a; b = half_after (ways_b terms) s w.b w.a }
+happens_at terms A s w = record { a = side_after (terms_at_a terms) s w.a w.b; b = w.b }
+happens_at terms B s w = record { a = w.a; b = side_after (terms_at_b terms) s w.b w.a }
 
 abbrev pub happens : Terms → Step → World → World
 happens terms s w = happens_at terms (side_of s) s w
 
-abbrev pub fresh : Half
+abbrev pub fresh : RunSide
 fresh = record { items = []; delivered = 0 }
 
 abbrev pub start : World

@@ -8,8 +8,8 @@ use Rattle.hex.specs.Hex.{encode_lower}
 use Rattle.mux_items.specs.declared.channel.ChannelKey.{ChannelKey}
 use Rattle.mux_run.specs.declared.steps.Side.{Side}
 use Rattle.mux_run.specs.declared.steps.Side.TheVariants.{A, B}
-use Rattle.mux_run.specs.declared.steps.Call.{Call}
-use Rattle.mux_run.specs.declared.steps.Call.TheVariants as call
+use Rattle.mux_items.specs.declared.call.Call.{Call}
+use Rattle.mux_items.specs.declared.call.Call.TheVariants as call
 use Rattle.mux_run.specs.declared.steps.Step.{Step}
 use Rattle.mux_run.specs.declared.steps.Step.TheVariants as step
 use Rattle.mux_run.specs.Built.{AreBuilt}

@@ -9,9 +9,9 @@ use Rattle.mux_run.specs.declared.steps.Side.{Side}
 use Rattle.mux_run.specs.declared.steps.Side.TheVariants.{A, B}
 use Rattle.mux_run.specs.declared.steps.Step.{Step}
 use Rattle.mux_run.specs.declared.answers.DuoAnswer.{DuoAnswer}
-use Rattle.mux_run.specs.Run.{Half, World, Terms, Ways, ways_a, ways_b, out, run, start, half_after, happens_at, happens, side_of}
+use Rattle.mux_run.specs.Run.{RunSide, World, Terms, SideTerms, terms_at_a, terms_at_b, out, run, start, side_after, happens_at, happens, side_of}
 use Rattle.mux_run.specs.Answers.{answer}
-use Rattle.mux_run.proofs.Growing.{half_after_grown, out-grows}
+use Rattle.mux_run.proofs.Growing.{side_after_grown, out-grows}
 use Rattle.mux_run.proofs.Links.{run_from-push}
 use Rattle.mux_end.specs.Stands.{EndValue}
 use Rattle.duo_world.specs.Holding.{HalfStands, WorldStands, DuoState, StandsForRun, output_to}
@@ -38,13 +38,13 @@ emits_by v nonce before after more old new grown is = record {
   within = omega (arith, ap length is, length-append old.output more);
 }
 
-emits_at : (w : Ways) (s : Step) (x y : Half) (old new : EndValue) → HalfStands w old x y → HalfStands w new (half_after w s x y) y → EmitsInStep w.version w.own x.items (half_after w s x y).items old new
+emits_at : (w : SideTerms) (s : Step) (x y : RunSide) (old new : EndValue) → HalfStands w old x y → HalfStands w new (side_after w s x y) y → EmitsInStep w.version w.own x.items (side_after w s x y).items old new
 emits_at w s x y old new was is =
-    let grown = (half_after_grown w s x y).1 in
+    let grown = (side_after_grown w s x y).1 in
     let more = out-grows w.version w.own grown.newer x.items in
-    let now : out w.version w.own (half_after w s x y).items ≡ out w.version w.own x.items ++ more.0 = ap (out w.version w.own) grown.is ∙ more.1 in
-    emits_by w.version w.own x.items (half_after w s x y).items more.0 old new now
-    (grows_output y.delivered (out w.version w.own x.items) (out w.version w.own (half_after w s x y).items) old.output new.output more.0 was.output is.output was.bound now)
+    let now : out w.version w.own (side_after w s x y).items ≡ out w.version w.own x.items ++ more.0 = ap (out w.version w.own) grown.is ∙ more.1 in
+    emits_by w.version w.own x.items (side_after w s x y).items more.0 old new now
+    (grows_output y.delivered (out w.version w.own x.items) (out w.version w.own (side_after w s x y).items) old.output new.output more.0 was.output is.output was.bound now)
 
 -- nothing is emitted by a side that the step isn't at
 nothing_new : (v : Version) (nonce : List ℕ) (items : List Item) → newly_out v nonce items items ≡ []
@@ -58,7 +58,7 @@ pub record StepTold (terms : Terms) (k : ℕ) (s : Step) (w : World) (side : Sid
 told_at : (terms : Terms) (k : ℕ) (s : Step) (w : World) (side : Side) (result : DuoAnswer) (old new : DuoState) → side ≡ side_of s → result ≡ answer terms s w
     → WorldStands terms old.a old.b w → WorldStands terms new.a new.b (happens_at terms side s w) → StepTold terms k s w side result old new
 told_at terms k s w A result old new at is was now =
-    let e = emits_at (ways_a terms) s w.a w.b old.a new.a was.at_a now.at_a in
+    let e = emits_at (terms_at_a terms) s w.a w.b old.a new.a was.at_a now.at_a in
     let front = decimal k ++ codes " " in
     let after : happens terms s w ≡ happens_at terms A s w = ap (λ side. happens_at terms side s w) (sym at) in
     record {
@@ -72,7 +72,7 @@ told_at terms k s w A result old new at is was now =
           ∙ ap (λ u. front ++ answer_lines (side_of s) (answer terms s w) ++ emitted_line A (newly_out terms.version terms.nonce_a w.a.items u.a.items) ++ emitted_line B (newly_out terms.version terms.nonce_b w.b.items u.b.items)) (sym after)))));
     }
 told_at terms k s w B result old new at is was now =
-    let e = emits_at (ways_b terms) s w.b w.a old.b new.b was.at_b now.at_b in
+    let e = emits_at (terms_at_b terms) s w.b w.a old.b new.b was.at_b now.at_b in
     let front = decimal k ++ codes " " in
     let after : happens terms s w ≡ happens_at terms B s w = ap (λ side. happens_at terms side s w) (sym at) in
     record {

@@ -1,6 +1,6 @@
 use Rattle.std.proofs.Common.{◌∙◌, sym, subst, length}
 use Rattle.mux_run.specs.declared.answers.DuoAnswer.TheVariants as duo
-use Rattle.mux_run.specs.Run.{called}
+use Rattle.mux_items.specs.Calls.{called}
 use Rattle.duo_world.specs.Stepping.{CallAnswersAt}
 use Rattle.duo_world.proofs.Answering.{called_on, called_settled, called_stopped}
 use Rattle.duo_world.proofs.ends.answer_call.Goals as goal

@@ -1,7 +1,7 @@
 use Rattle.std.proofs.Common.{◌≡◌, ◌∙◌, sym, ap, subst, arith, min, length, take, ◌++◌, IfOk}
 use Rattle.mux_items.specs.Kept.{next_key}
 use Rattle.mux_items.specs.Lists.{unread}
-use Rattle.mux_run.specs.declared.steps.Call.TheVariants as variant
+use Rattle.mux_items.specs.declared.call.Call.TheVariants as variant
 use Rattle.mux_run.specs.declared.answers.Reply.TheVariants as reply
 use Rattle.duo_world.specs.Holding.{place_of, rest_of}
 use Rattle.duo_world.specs.Stepping.{Calls}

@@ -2,7 +2,8 @@ use Rattle.std.proofs.Common.{◌∙◌, ap, arith, ◌++◌, ◌<◌, length, t
 use Rattle.std.proofs.lemmas.Bool.Decides.{nat_tests}
 use Rattle.std.proofs.lemmas.List.{take_min, drop_min}
 use Rattle.mux_items.specs.Bodies.{frame_texts}
-use Rattle.mux_items.specs.Due.{content_frames, piece_size}
+use Rattle.mux_items.specs.Limits.{piece_size}
+use Rattle.mux_items.specs.Due.{content_frames}
 use Rattle.mux_end.proofs.Pieces.{texts_more}
 use Rattle.mux_end.proofs.frames.push_content.Goals as goal
 
