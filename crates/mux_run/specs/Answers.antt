@@ -3,12 +3,12 @@ use Rattle.std.specs.Prelude.{ℕ, List, [], ◌∷◌, ◌++◌, length, take, 
 use Rattle.wire_base.specs.declared.frame.Version.{Version}
 use Rattle.wire_base.specs.declared.refusal.Refusal.{Refusal}
 use Rattle.mux_items.specs.declared.channel.MuxEvent.{MuxEvent}
-use Rattle.mux_items.specs.Items.{Item, End, is_running}
+use Rattle.mux_items.specs.Items.{Item, End}
 use Rattle.mux_items.specs.Kept.{next_key}
 use Rattle.mux_items.specs.Lists.{unread}
 use Rattle.mux_items.specs.Applying.{event_of}
 use Rattle.mux_items.specs.Calls.{call_refusal}
-use Rattle.mux_run.specs.Run.{RunSide, World, Terms, SideTerms, terms_at_a, terms_at_b, added, is_spent, side_after, side_of}
+use Rattle.mux_run.specs.Run.{RunSide, runs, World, Terms, SideTerms, terms_at_a, terms_at_b, added, is_spent, side_after, side_of}
 use Rattle.mux_run.specs.declared.steps.Side.{Side}
 use Rattle.mux_run.specs.declared.steps.Side.TheVariants.{A, B}
 use Rattle.mux_items.specs.declared.call.Call.{Call}
@@ -54,7 +54,7 @@ reply_to v c items = refused_or (call_refusal v c items) (success v c items)
 
 -- how many bytes a delivery of at most n to x answers
 abbrev pub delivered_count : SideTerms → (n : ℕ) → RunSide → RunSide → ℕ
-delivered_count w n x y = if not (is_running x.items) then 0 else if is_spent w n x y then 0 else added w n x y
+delivered_count w n x y = if not (runs x) then 0 else if is_spent w n x y then 0 else added w n x y
 
 -- what a step at x answers
 abbrev pub answer_at : SideTerms → Step → RunSide → RunSide → DuoAnswer

@@ -1,8 +1,8 @@
-pub mod Built
+pub mod Run
+pub mod Moments
+pub mod Between
+pub mod Linked
 pub mod Cuts
 pub mod Fed
-pub mod Run
 pub mod Safe
-pub mod Linked
-pub mod Plain
 pub mod Answers

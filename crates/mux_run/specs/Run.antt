@@ -6,25 +6,28 @@ use Rattle.wire_base.specs.declared.reason.Reason.TheVariants as reason
 use Rattle.wire_base.specs.declared.state.Cause.TheVariants as cause
 use Rattle.frame_text.specs.Hello.{hello}
 use Rattle.mux_items.specs.Bodies.{ChannelFrame, flip, frame_text, frame_texts}
-use Rattle.mux_items.specs.Items.{Item, Hello, DidOffer, DidAccept, DidWrite, DidRead, DidComplete, DidTerminate, End, is_running}
+use Rattle.mux_items.specs.Items.{Item, Hello, End, is_running}
 use Rattle.mux_items.specs.Parties.{party_by}
-use Rattle.mux_items.specs.Kept.{next_key}
 use Rattle.mux_items.specs.Due.{sent, got}
 use Rattle.mux_items.specs.Limits.{most_bytes}
-use Rattle.mux_items.specs.Refusals.{is_ready, offer_refusal, accept_refusal, write_refusal, read_refusal, complete_refusal, terminate_refusal}
+use Rattle.mux_items.specs.Refusals.{is_ready}
+use Rattle.mux_items.specs.Limits.{most_bytes}
+use Rattle.mux_items.specs.Calls.{called}
 use Rattle.mux_items.specs.Applying.{apply_frame, place_at}
-use Rattle.wire_base.specs.declared.refusal.Refusal.{Refusal}
 use Rattle.mux_run.specs.declared.steps.Side.{Side}
 use Rattle.mux_run.specs.declared.steps.Side.TheVariants.{A, B}
 use Rattle.mux_items.specs.declared.call.Call.{Call}
-use Rattle.mux_items.specs.declared.call.Call.TheVariants as call
 use Rattle.mux_run.specs.declared.steps.Step.{Step}
 use Rattle.mux_run.specs.declared.steps.Step.TheVariants as step
 
--- one side: its items, newest first, and how many of the other side's bytes were given to it
+-- one side: its items, newest first, and how many of the other side's bytes were delivered to it
 pub record RunSide : Type 0 where
   pub items : List Item
   pub delivered : ℕ
+
+-- whether the end of this side runs
+abbrev pub runs : RunSide → Bool
+runs x = is_running x.items
 
 pub record World : Type 0 where
   pub a : RunSide
@@ -40,7 +43,7 @@ pub record Terms : Type 0 where
 abbrev pub terms_of : Version → (nonces : List (List ℕ)) → Terms
 terms_of v nonces = record { version = v; nonce_a = slice_index_or nonces 0 []; nonce_b = slice_index_or nonces 1 [] }
 
--- the same terms as the side X of a pair X, Y sees them
+-- the same terms as one side sees them: its own nonce and its peer's
 pub record SideTerms : Type 0 where
   pub version : Version
   pub own : List ℕ
@@ -110,32 +113,6 @@ settled w delivered items y =
       delivered = delivered;
     }
 
--- why a call is refused, if it is
-abbrev pub call_refusal : Version → Call → List Item → Option Refusal
-call_refusal v (call.Offer name size) items = offer_refusal v name size items
-call_refusal v (call.Accept c size) items = accept_refusal v c size items
-call_refusal v (call.Write c bytes) items = write_refusal v c bytes items
-call_refusal v (call.Read c max) items = read_refusal v c items
-call_refusal v (call.Complete c) items = complete_refusal v c items
-call_refusal v (call.Terminate c) items = terminate_refusal v c items
-
--- the item of an accepted call
-abbrev pub item_of_call : Call → List Item → Item
-item_of_call (call.Offer name size) items = DidOffer (next_key items) name size
-item_of_call (call.Accept c size) items = DidAccept c size
-item_of_call (call.Write c bytes) items = DidWrite c bytes
-item_of_call (call.Read c max) items = DidRead c max
-item_of_call (call.Complete c) items = DidComplete c
-item_of_call (call.Terminate c) items = DidTerminate c
-
-abbrev pub unless_refused : Option Refusal → Item → List Item → List Item
-unless_refused (Some refusal) item items = items
-unless_refused None item items = item ∷ items
-
--- a refused call changes nothing
-abbrev pub called : Version → Call → List Item → List Item
-called v c items = unless_refused (call_refusal v c items) (item_of_call c items) items
-
 -- how many bytes a delivery of at most n adds
 abbrev pub added : SideTerms → (n : ℕ) → RunSide → RunSide → ℕ
 added w n x y = min n (length (in_flight w x y))
@@ -147,12 +124,12 @@ is_spent w n x y = nat_lt most_bytes (x.delivered + added w n x y)
 -- what a delivery makes of the side x that it goes to
 abbrev pub delivered_to : SideTerms → (n : ℕ) → RunSide → RunSide → RunSide
 delivered_to w n x y =
-    if not (is_running x.items) then x
+    if not (runs x) then x
     else if is_spent w n x y then record { items = End cause.Spent ∷ x.items; delivered = x.delivered }
     else settled w (x.delivered + added w n x y) x.items y
 
 abbrev pub ended_side : RunSide → RunSide
-ended_side x = if is_running x.items then record { items = End cause.InputEnded ∷ x.items; delivered = x.delivered } else x
+ended_side x = if runs x then record { items = End cause.InputEnded ∷ x.items; delivered = x.delivered } else x
 
 -- what a step makes of its side x
 abbrev pub side_after : SideTerms → Step → RunSide → RunSide → RunSide

@@ -7,7 +7,8 @@ mod steps;
 
 pub use answers::{DuoAnswer, EndEvent, EventList, Reply};
 pub use laws::every_run_is_safe;
-pub use steps::{Call, Side, Step, StepList};
+pub use mux_items::Call;
+pub use steps::{Side, Step, StepList};
 
 #[cfg(test)]
 mod tests {

@@ -3,26 +3,15 @@
 ghost use Rattle.std.specs.Prelude.{◌≡◌, [], ◌∷◌, ◌++◌, length, slice_get, OnOk, OnErr};
 ghost use Rattle.std.specs.Option.{option_copied};
 
-use mux_items::ChannelKey;
+use mux_items::Call;
 use std::alloc::Global;
 use std::marker::Model;
-use wire_base::{Blob, OutOfMemory, Text};
+use wire_base::OutOfMemory;
 
 #[derive(Clone, Copy, Debug, PartialEq, Eq)]
 pub enum Side {
     A,
     B,
-}
-
-/// A call of one end. Windows and maxima are numbers of bytes.
-#[derive(Debug, Drop)]
-pub enum Call {
-    Offer(Text, u32),
-    Accept(ChannelKey, u32),
-    Write(ChannelKey, Blob),
-    Read(ChannelKey, u32),
-    Complete(ChannelKey),
-    Terminate(ChannelKey),
 }
 
 /// A step: a call at a side, a delivery of at most so many bytes to a side, or the end of the stream into a side.
