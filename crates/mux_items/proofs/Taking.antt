@@ -69,7 +69,7 @@ written_once_completed v c (DidWrite key bytes) items ok done = elim (cases_Bool
 written_once_completed v c item items ok done = refl
 
 -- so the own completion stays emitted
-completion_in_more : (v : Version) (c : ChannelKey) (item : Item) (items : List Item) → Allowed v (item ∷ items) → completion_in v c items ≡ true → completion_in v c (item ∷ items) ≡ true
+pub completion_in_more : (v : Version) (c : ChannelKey) (item : Item) (items : List Item) → Allowed v (item ∷ items) → completion_in v c items ≡ true → completion_in v c (item ∷ items) ≡ true
 completion_in_more v c item items ok e =
     let outer = and_parts (is_accepted_in c items && has_completed c items) (emitted_in v c items == length (written c items)) e in
     let inner = and_parts (is_accepted_in c items) (has_completed c items) outer.0 in

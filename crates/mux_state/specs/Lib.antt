@@ -1,0 +1,5 @@
+pub mod State
+pub mod Next
+pub mod Tests
+pub mod Emitting
+pub mod Book
