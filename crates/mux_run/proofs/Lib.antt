@@ -1,5 +1,6 @@
 pub mod WholeFrames
 pub mod Growing
+pub mod Between
 pub mod Links
 pub mod Moments
 pub mod Safety

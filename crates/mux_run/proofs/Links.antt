@@ -1,15 +1,12 @@
--- The two halves of every run hang together.
+-- The two sides of every run hang together.
 use Rattle.std.specs.Prelude.{if◌then◌else◌, not, Bool, true, false}
-use Rattle.std.proofs.Common.{◌≡◌, ℕ, ◌+◌, ◌≤◌, List, [], ◌∷◌, ◌++◌, length, map, refl, sym, ◌∙◌, ap, ap₂, arith, length-append, length-drop, append_assoc}
-use Rattle.std.proofs.lemmas.List.{map-append}
-use Rattle.wire_base.specs.declared.frame.Version.{Version}
+use Rattle.std.proofs.Common.{◌≡◌, ℕ, ◌+◌, ◌≤◌, List, [], ◌∷◌, ◌++◌, length, map, refl, ap, arith, length-append, length-drop}
 use Rattle.wire_base.specs.declared.state.Cause.TheVariants as cause
-use Rattle.mux_items.specs.declared.channel.ChannelKey.{ChannelKey}
-use Rattle.mux_items.specs.Bodies.{ChannelFrame, other_key, flip, frame_texts}
+use Rattle.mux_items.specs.Bodies.{flip, frame_texts}
 use Rattle.mux_items.specs.Items.{Item, End, is_running}
-use Rattle.mux_items.specs.Due.{got}
 use Rattle.mux_items.specs.Calls.{called}
 use Rattle.mux_run.specs.Run.{RunSide, World, Terms, SideTerms, terms_at_a, terms_at_b, turned, out, settled, added, is_spent, delivered_to, ended_side, side_after, side_of, happens_at, happens, fresh, start, run_from, run}
+use Rattle.mux_run.specs.Between.{ahead, Between}
 use Rattle.mux_run.specs.Linked.{Linked, Joined}
 use Rattle.mux_run.specs.declared.steps.Side.{Side}
 use Rattle.mux_run.specs.declared.steps.Side.TheVariants.{A, B}
@@ -17,69 +14,35 @@ use Rattle.mux_items.specs.declared.call.Call.{Call}
 use Rattle.mux_run.specs.declared.steps.Step.{Step}
 use Rattle.mux_run.specs.declared.steps.Step.TheVariants as step
 use Rattle.mux_run.proofs.Growing.{Grown, Advances, settled_advances, called_grown, end_grown, sent_grows, out-more}
+use Rattle.mux_run.proofs.Between.{between_after}
 
--- the same frame again
-
-not_not : (b : Bool) → not (not b) ≡ b
-not_not true = refl
-not_not false = refl
-
-pub other_other : (c : ChannelKey) → other_key (other_key c) ≡ c
-other_other c = ap (λ own. record { id = c.id; own = own }) (not_not c.own)
-
-pub flip_flip : (f : ChannelFrame) → flip (flip f) ≡ f
-flip_flip f = ap (λ key. record { key = key; body = f.body }) (other_other f.key)
-
-pub flips_flip : (fs : List ChannelFrame) → map flip (map flip fs) ≡ fs
-flips_flip [] = refl
-flips_flip (f ∷ fs) = ap₂ (λ g gs. g ∷ gs) (flip_flip f) (flips_flip fs)
-
--- one way
-
--- the receiver applied more of the frames ahead
-linked_receiver : (w : SideTerms) (x y : RunSide) (after : List Item) (delivered : ℕ) (l : Linked w x y) → delivered ≤ length (out w.version w.peer y.items) → Advances w.version x.items after l.ahead
-    → Linked w (record { items = after; delivered = delivered }) y
-linked_receiver w x y after delivered l bound a =
-    let more : map flip (got after) ≡ map flip (got x.items) ++ a.done =
-    ap (map flip) a.grown.applied ∙ (map-append flip (got x.items) (map flip a.done) ∙ ap (λ fs. map flip (got x.items) ++ fs) (flips_flip a.done)) in
-    record {
-      ahead = a.left;
-      applied = l.applied ∙ (ap (λ fs. map flip (got x.items) ++ fs) a.are ∙ (sym (append_assoc (map flip (got x.items)) a.done a.left) ∙ ap (λ fs. fs ++ a.left) (sym more)));
-      bound = bound;
-      allowed = a.grown.allowed l.allowed;
-    }
-
--- the sender's items grew
-linked_sender : (w : SideTerms) (x y y' : RunSide) (frames : List ChannelFrame) → Grown w.version y.items y'.items frames → Linked w x y → Linked w x y'
-linked_sender w x y y' frames g l =
-    let on = sent_grows w.version y.items y'.items frames g in
-    record {
-      ahead = l.ahead ++ on.0;
-      applied = on.1 ∙ (ap (λ fs. fs ++ on.0) l.applied ∙ append_assoc (map flip (got x.items)) l.ahead on.0);
-      bound = omega (arith, l.bound, ap length (out-more w.version w.peer y.items y'.items on.0 on.1), length-append (out w.version w.peer y.items) (frame_texts w.version on.0));
-      allowed = l.allowed;
-    }
+pub joined_between : (w : SideTerms) (x y : RunSide) → Joined w x y → Between w.version x.items y.items
+joined_between w x y j = record { into = j.into.applied; back = j.back.applied; allowed = j.into.allowed; allowed_peer = j.back.allowed }
 
 -- a step of x
 
-none_advances : (v : Version) (before after : List Item) (ahead : List ChannelFrame) → Grown v before after [] → Advances v before after ahead
-none_advances v before after ahead g = record { done = []; left = ahead; are = refl; grown = g }
-
-joined_after : (w : SideTerms) (x y : RunSide) (after : List Item) (delivered : ℕ) (j : Joined w x y) → delivered ≤ length (out w.version w.peer y.items) → Advances w.version x.items after j.into.ahead
+joined_after : (w : SideTerms) (x y : RunSide) (after : List Item) (delivered : ℕ) → Joined w x y → delivered ≤ length (out w.version w.peer y.items) → Advances w.version x.items after (ahead w.version x.items y.items)
     → Joined w (record { items = after; delivered = delivered }) y
-joined_after w x y after delivered j bound a = record {
-  into = linked_receiver w x y after delivered j.into bound a;
-  back = linked_sender (turned w) y x (record { items = after; delivered = delivered }) (map flip a.done) a.grown j.back;
-}
+joined_after w x y after delivered j bound a =
+    let b = (between_after w.version x.items y.items after a.done a.left (joined_between w x y j) a.are a.grown).0 in
+    let on = sent_grows w.version x.items after (map flip a.done) a.grown in
+    record {
+      into = record { applied = b.into; bound = bound; allowed = b.allowed };
+      back = record {
+        applied = b.back;
+        bound = omega (arith, j.back.bound, ap length (out-more w.version w.own x.items after on.0 on.1), length-append (out w.version w.own x.items) (frame_texts w.version on.0));
+        allowed = b.allowed_peer;
+      };
+    }
 
 joined_grown : (w : SideTerms) (x y : RunSide) (after : List Item) → Joined w x y → Grown w.version x.items after [] → Joined w (record { items = after; delivered = x.delivered }) y
-joined_grown w x y after j g = joined_after w x y after x.delivered j j.into.bound (none_advances w.version x.items after j.into.ahead g)
+joined_grown w x y after j g = joined_after w x y after x.delivered j j.into.bound (record { done = []; left = ahead w.version x.items y.items; are = refl; grown = g })
 
 pub called_joined : (w : SideTerms) (c : Call) (x y : RunSide) → Joined w x y → Joined w (record { items = called w.version c x.items; delivered = x.delivered }) y
 called_joined w c x y j = joined_grown w x y (called w.version c x.items) j (called_grown w.version c x.items)
 
 pub settled_joined : (w : SideTerms) (delivered : ℕ) (x y : RunSide) → Joined w x y → delivered ≤ length (out w.version w.peer y.items) → Joined w (settled w delivered x.items y) y
-settled_joined w delivered x y j bound = joined_after w x y (settled w delivered x.items y).items delivered j bound (settled_advances w delivered x.items y j.into.ahead j.into.applied)
+settled_joined w delivered x y j bound = joined_after w x y (settled w delivered x.items y).items delivered j bound (settled_advances w delivered x.items y (ahead w.version x.items y.items) j.into.applied)
 
 -- a delivery ends within what was emitted
 pub delivery_bound : (w : SideTerms) (n : ℕ) (x y : RunSide) → x.delivered ≤ length (out w.version w.peer y.items) → x.delivered + added w n x y ≤ length (out w.version w.peer y.items)
@@ -106,13 +69,13 @@ ended_joined w x y j = by (is_running x.items) refl
 -- a step of x keeps both ways
 pub side_after_joined : (w : SideTerms) (s : Step) (x y : RunSide) → Joined w x y → Joined w (side_after w s x y) y
 side_after_joined w (step.Call side c) x y j =
-    let called_half : RunSide = record { items = called w.version c x.items; delivered = x.delivered } in
+    let called_side : RunSide = record { items = called w.version c x.items; delivered = x.delivered } in
     let on = called_joined w c x y j in
-    settled_joined w x.delivered called_half y on on.into.bound
+    settled_joined w x.delivered called_side y on on.into.bound
 side_after_joined w (step.Deliver side n) x y j = delivered_joined w n x y j
 side_after_joined w (step.End side) x y j = ended_joined w x y j
 
--- the same halves, as the other side sees them
+-- the same sides, as the other side sees them
 pub turned_joined : (w : SideTerms) (x y : RunSide) → Joined w x y → Joined (turned w) y x
 turned_joined w x y j = record { into = j.back; back = j.into }
 
@@ -127,7 +90,7 @@ run_from_joined terms w [] j = j
 run_from_joined terms w (s ∷ steps) j = run_from_joined terms (happens terms s w) steps (happens_joined terms s (side_of s) w j)
 
 pub fresh_linked : (w : SideTerms) → Linked w fresh fresh
-fresh_linked w = record { ahead = []; applied = refl; bound = omega arith; allowed = tt }
+fresh_linked w = record { applied = refl; bound = omega arith; allowed = tt }
 
 pub fresh_joined : (w : SideTerms) → Joined w fresh fresh
 fresh_joined w = record { into = fresh_linked w; back = fresh_linked (turned w) }

@@ -1,5 +1,5 @@
 -- How the two sides of a run hang together.
-use Rattle.std.specs.Prelude.{◌≡◌, ◌≤◌, List, ◌++◌, length, map}
+use Rattle.std.specs.Prelude.{◌≡◌, ◌≤◌, ◌++◌, length, map}
 use Rattle.mux_items.specs.Bodies.{flip}
 use Rattle.mux_items.specs.Due.{sent, got}
 use Rattle.mux_items.specs.Applying.{Allowed}
