@@ -10,10 +10,11 @@ use Rattle.mux_items.specs.declared.channel.Tally.{Tally}
 use Rattle.mux_items.specs.Bodies.{FrameBody, Offer, OfferAccepted, Content, ContentWritingCompleted, ChannelTerminated, ContentProcessed, same_key}
 use Rattle.mux_items.specs.Items.{Item, DidOffer, Got, Rejected, ended, party_of}
 use Rattle.mux_items.specs.Lists.{is_offered, is_rejected, is_closed, is_finished, has_terminated, unread, window, termination_emitted, is_terminated_by_peer}
+use Rattle.mux_items.specs.Limits.{most_channels}
 use Rattle.mux_items.specs.Kept.{keys, is_known, has_bytes, is_kept, kept_keys, own_windows, own_offers, own_id, next_key}
 use Rattle.mux_items.specs.Refusals.{unless_ended, accept_refusal, write_refusal, read_refusal, complete_refusal, terminate_refusal, offer_refusal, heeded_refusal, later_refusal, frame_refusal}
 use Rattle.mux_items.specs.Applying.{Allowed, lacks_room, is_offer}
-use Rattle.mux_items.specs.Views.{view_of, tally_of, known_keys, by_id}
+use Rattle.mux_items.specs.Views.{view_of, tally_of, known_keys}
 use Rattle.mux_items.proofs.Keys.{same_key_true}
 use Rattle.mux_items.proofs.Applied.{allowed_tail}
 use Rattle.mux_state.specs.State.{ChannelState, channel_at, kept_state}
@@ -21,6 +22,7 @@ use Rattle.mux_state.specs.Tests.{on_kept, accept_test, write_test, read_test, w
 use Rattle.mux_state.specs.Book.{Standing, Kept, Gone, standing_of, entry_of, rejected_keys, book_of, find, found, kept_in, is_found, has_offer, is_kept_standing, kept_window, kept_count, windows_in, own_count, drawn_key, offer_test, has_room, frame_on_found, frame_in, tally_found, known_in}
 use Rattle.mux_state.proofs.Known.{same_key_turned, known_offered, fresh_offer}
 use Rattle.mux_state.proofs.Law.{fresh_did, fresh_rejection}
+use Rattle.mux_state.proofs.Orders.{turned, any_in_order, count_in_order, sum_in_order}
 use Rattle.mux_state.proofs.Refusing.{accept_by_state, write_by_state, read_by_state, complete_by_state, terminate_by_state, frame_by_state, view_by_state}
 
 -- an entry is found exactly where the channel is known
@@ -32,7 +34,7 @@ find_in v c items (d ∷ ds) = elim (cases_Bool (same_key c d)) [
 ]
 
 pub found_is : (v : Version) (c : ChannelKey) (items : List Item) → found c (book_of v items) ≡ (if is_known c items then Some (standing_of v c items) else None)
-found_is v c items = find_in v c items (keys items)
+found_is v c items = find_in v c items (known_keys items) ∙ ap (λ b. if b then Some (standing_of v c items) else None) (any_in_order (same_key c) (keys items))
 
 kept_if : (known left : Bool) (now : ChannelState) (tally : Tally) → kept_in (if known then Some (if known && left then Kept now else Gone tally) else None) ≡ (if known && left then Some now else None)
 kept_if true true now tally = refl
@@ -51,17 +53,24 @@ count_in v items (c ∷ cs) = elim (cases_Bool (is_kept v c items)) [
 ]
 
 pub kept_count_is : (v : Version) (items : List Item) → kept_count (book_of v items) ≡ length (kept_keys v items)
-kept_count_is v items = count_in v items (keys items)
+kept_count_is v items = count_in v items (known_keys items) ∙ count_in_order (λ c. is_kept v c items) (keys items)
 
-windows_of : (v : Version) (items : List Item) (sum : ℕ) (cs : List ChannelKey) → fold (λ a entry. a + kept_window entry.standing) sum (map (entry_of v items) cs) ≡ fold (λ a c. a + window c items) sum (filter (λ c. is_kept v c items) cs)
+windows_of : (v : Version) (items : List Item) (sum : ℕ) (cs : List ChannelKey) → fold (λ a entry. a + kept_window entry.standing) sum (map (entry_of v items) cs) ≡ fold (λ a c. a + kept_window (standing_of v c items)) sum cs
 windows_of v items sum [] = refl
-windows_of v items sum (c ∷ cs) = elim (cases_Bool (is_kept v c items)) [
-  | inl f ↦ rw f (windows_of v items (sum + window c items) cs)
-  | inr f ↦ rw f (ap (λ n. fold (λ a entry. a + kept_window entry.standing) n (map (entry_of v items) cs)) (omega arith) ∙ windows_of v items sum cs)
+windows_of v items sum (c ∷ cs) = windows_of v items (sum + kept_window (standing_of v c items)) cs
+
+windows_kept : (v : Version) (items : List Item) (sum : ℕ) (cs : List ChannelKey) → fold (λ a c. a + kept_window (standing_of v c items)) sum cs ≡ fold (λ a c. a + window c items) sum (filter (λ c. is_kept v c items) cs)
+windows_kept v items sum [] = refl
+windows_kept v items sum (c ∷ cs) = elim (cases_Bool (is_kept v c items)) [
+  | inl f ↦ rw f (windows_kept v items (sum + window c items) cs)
+  | inr f ↦ rw f (ap (λ n. fold (λ a k. a + kept_window (standing_of v k items)) n cs) (omega arith) ∙ windows_kept v items sum cs)
 ]
 
 pub windows_are : (v : Version) (items : List Item) → windows_in (book_of v items) ≡ own_windows v items
-windows_are v items = windows_of v items 0 (keys items)
+windows_are v items =
+    windows_of v items 0 (known_keys items)
+    ∙ (sum_in_order (λ c. kept_window (standing_of v c items)) 0 (keys items)
+    ∙ windows_kept v items 0 (keys items))
 
 keys_of : (v : Version) (items : List Item) (cs : List ChannelKey) → map (λ entry. entry.key) (map (entry_of v items) cs) ≡ cs
 keys_of v items [] = refl
@@ -78,32 +87,14 @@ own_of v items (c ∷ cs) = elim (cases_Bool c.own) [
 own_keys : (v : Version) (items : List Item) → Allowed v items → length (filter (λ c. c.own) (keys items)) ≡ own_offers items
 own_keys v [] ok = refl
 own_keys v (DidOffer key name size ∷ items) ok = rw (ap (λ k. k.own) ok.1) (omega (arith, own_keys v items ok.2))
-own_keys v (Got place key (Offer name size) ∷ items) ok = rw ((fresh_offer v key name size items ok.1).0) (own_keys v items ok.3)
+own_keys v (Got place key (Offer name size) ∷ items) ok = rw ((fresh_offer v key name size items ok.0.unrefused).0) (own_keys v items ok.2)
 own_keys v (item ∷ items) ok = own_keys v items (allowed_tail v item items ok)
 
 pub own_count_is : (v : Version) (items : List Item) → Allowed v items → own_count (book_of v items) ≡ own_offers items
-own_count_is v items ok = own_of v items (keys items) ∙ own_keys v items ok
+own_count_is v items ok = own_of v items (known_keys items) ∙ (count_in_order (λ c. c.own) (keys items) ∙ own_keys v items ok)
 
 pub drawn_is : (v : Version) (items : List Item) → Allowed v items → next_key items ≡ drawn_key (book_of v items)
 drawn_is v items ok = λ i. record { id = own_id (party_of items) (sym (own_count_is v items ok) i + 1); own = true }
-
--- what was offered is known or rejected
-rejected_any : (c : ChannelKey) (items : List Item) → list_any (λ key. same_key key c) (rejected_keys items) ≡ is_rejected c items
-rejected_any c [] = refl
-rejected_any c (Rejected place key body ∷ items) = elim (cases_Bool (same_key key c)) [
-  | inl e ↦ rw e refl
-  | inr e ↦ rw e (rejected_any c items)
-]
-rejected_any c (item ∷ items) = rejected_any c items
-
-turned : (c key : ChannelKey) → same_key c key ≡ same_key key c
-turned c key = elim (cases_Bool (same_key c key)) [
-  | inl e ↦ e ∙ sym (same_key_turned c key e)
-  | inr e ↦ elim (cases_Bool (same_key key c)) [
-    | inl f ↦ absurd (true≢false (sym (same_key_turned key c f) ∙ e))
-    | inr f ↦ e ∙ sym f
-  ]
-]
 
 if_or_is : (b x y : Bool) → ((b || x) || y) ≡ (if b then true else (x || y))
 if_or_is true x y = refl
@@ -113,6 +104,22 @@ or_if_is : (b x y : Bool) → (x || (if b then true else y)) ≡ (if b then true
 or_if_is true true y = refl
 or_if_is true false y = refl
 or_if_is false x y = refl
+
+or_if : (b : Bool) → (b || false) ≡ (if b then true else false)
+or_if true = refl
+or_if false = refl
+
+any_last : (f : ChannelKey → Bool) (cs : List ChannelKey) (c : ChannelKey) → list_any f (cs ++ c ∷ []) ≡ (if f c then true else list_any f cs)
+any_last f [] c = or_if (f c)
+any_last f (d ∷ ds) c = ap (λ b. f d || b) (any_last f ds c) ∙ or_if_is (f c) (f d) (list_any f ds)
+
+-- what was offered is known or rejected
+rejected_any : (c : ChannelKey) (items : List Item) → list_any (λ key. same_key key c) (rejected_keys items) ≡ is_rejected c items
+rejected_any c [] = refl
+rejected_any c (Rejected place key body ∷ items) =
+    any_last (λ k. same_key k c) (rejected_keys items) key
+    ∙ ((λ i. if same_key key c then true else rejected_any c items i))
+rejected_any c (item ∷ items) = rejected_any c items
 
 pub offered_is : (c : ChannelKey) (items : List Item) → (is_known c items || is_rejected c items) ≡ is_offered c items
 offered_is c [] = refl
@@ -132,10 +139,10 @@ pub offer_by_book : (v : Version) (name : List ℕ) (size : ℕ) (items : List I
 offer_by_book v name size items ok = rw (kept_count_is v items, windows_are v items, own_count_is v items ok) refl
 
 pub room_by_book : (v : Version) (body : FrameBody) (items : List Item) → not (lacks_room v body items) ≡ has_room body (book_of v items)
-room_by_book v body items = ap (λ n. not (is_offer body && nat_le 1024 n)) (sym (kept_count_is v items))
+room_by_book v body items = ap (λ n. not (is_offer body && nat_le most_channels n)) (sym (kept_count_is v items))
 
 pub known_by_book : (v : Version) (items : List Item) → known_keys items ≡ known_in (book_of v items)
-known_by_book v items = ap (λ ks. by_id (filter (λ c. c.own) ks) ++ by_id (filter (λ c. not c.own) ks)) (sym (keys_of v items (keys items)))
+known_by_book v items = sym (keys_of v items (known_keys items))
 
 pub view_by_book : (v : Version) (c : ChannelKey) (items : List Item) → view_of v c items ≡ view_on (kept_in (found c (book_of v items)))
 view_by_book v c items = view_by_state v c items ∙ ap view_on (sym (kept_found v c items))
@@ -165,12 +172,12 @@ known_unrejected v c (DidOffer key name size ∷ items) ok e = elim (cases_Bool 
   | inr differ ↦ known_unrejected v c items ok.2 (older_known c key items differ e)
 ]
 known_unrejected v c (Got place key (Offer name size) ∷ items) ok e = elim (cases_Bool (same_key c key)) [
-  | inl same ↦ unoffered_unrejected c items (subst (λ k. is_offered k items ≡ false) (sym (same_key_true c key same)) (fresh_offer v key name size items ok.1).1)
-  | inr differ ↦ known_unrejected v c items ok.3 (older_known c key items differ e)
+  | inl same ↦ unoffered_unrejected c items (subst (λ k. is_offered k items ≡ false) (sym (same_key_true c key same)) (fresh_offer v key name size items ok.0.unrefused).1)
+  | inr differ ↦ known_unrejected v c items ok.2 (older_known c key items differ e)
 ]
 known_unrejected v c (Rejected place key body ∷ items) ok e = elim (cases_Bool (same_key key c)) [
   | inl same ↦ clash (is_offered c items) (known_offered c items e) (subst (λ k. is_offered k items ≡ false) (same_key_true key c same) (fresh_rejection v place key body items ok).1)
-  | inr differ ↦ ap (λ b. if b then true else is_rejected c items) differ ∙ known_unrejected v c items ok.3 e
+  | inr differ ↦ ap (λ b. if b then true else is_rejected c items) differ ∙ known_unrejected v c items ok.2 e
 ]
 known_unrejected v c (item ∷ items) ok e = known_unrejected v c items (allowed_tail v item items ok) e
 

@@ -65,8 +65,8 @@ untouched v c (DidComplete key ∷ items) ok e = elim (cases_Bool (same_key key 
   | inr differ ↦ let older = untouched v c items ok.1 e in record { unwritten = older.unwritten; uncompleted = rw differ older.uncompleted }
 ]
 untouched v c (Rejected place key body ∷ items) ok e = elim (cases_Bool (same_key key c)) [
-  | inl same ↦ let u = untouched_blank v c items ok.3 (subst (λ k. is_offered k items ≡ false) (same_key_true key c same) (fresh_rejection v place key body items ok).1) in record { unwritten = u.unwritten; uncompleted = u.uncompleted }
-  | inr differ ↦ let u = untouched v c items ok.3 (older_rejected (same_key key c) (is_rejected c items) differ e) in record { unwritten = u.unwritten; uncompleted = u.uncompleted }
+  | inl same ↦ let u = untouched_blank v c items ok.2 (subst (λ k. is_offered k items ≡ false) (same_key_true key c same) (fresh_rejection v place key body items ok).1) in record { unwritten = u.unwritten; uncompleted = u.uncompleted }
+  | inr differ ↦ let u = untouched v c items ok.2 (older_rejected (same_key key c) (is_rejected c items) differ e) in record { unwritten = u.unwritten; uncompleted = u.uncompleted }
 ]
 untouched v c (item ∷ items) ok e = let u = untouched v c items (allowed_tail v item items ok) e in record { unwritten = u.unwritten; uncompleted = u.uncompleted }
 
@@ -119,12 +119,12 @@ frame_found : (v : Version) (place : ℕ) (c : ChannelKey) (body : FrameBody) (i
     → due v (Got place c body) items ≡ due_found c (is_running items) (Got place c body) (found c (book_of v items))
 frame_found v place c body items ok offered plain = elim (cases_Bool (is_known c items)) [
   | inl known ↦
-      let sends = channel_sends v c (Got place c body) items (same_key_refl c) ok (known_unrejected v c items ok.3 known) in
+      let sends = channel_sends v c (Got place c body) items (same_key_refl c) ok (known_unrejected v c items ok.2 known) in
       elim (cases_Bool (is_kept v c items)) [
-        | inl kept ↦ due_kept v c (Got place c body) items ok.3 kept sends
+        | inl kept ↦ due_kept v c (Got place c body) items ok.2 kept sends
         | inr gone ↦ sends ∙ (plain ∙ (quiet_sent c (is_running items) place body (channel_at v c items) (gone_is v c items known gone).sent ∙ sym (ap (due_found c (is_running items) (Got place c body)) (found_gone v c items known gone))))
       ]
-  | inr unknown ↦ due_rejected v place c body items ok.3 (or_last (is_known c items) (is_rejected c items) unknown (offered_is c items ∙ offered))
+  | inr unknown ↦ due_rejected v place c body items ok.2 (or_last (is_known c items) (is_rejected c items) unknown (offered_is c items ∙ offered))
       ∙ sym (ap (due_found c (is_running items) (Got place c body)) (found_none v c items unknown))
 ]
 
@@ -147,12 +147,12 @@ due_by_book v (DidComplete key) items ok =
 due_by_book v (DidTerminate key) items ok =
     let kept = (terminate_tells v key items ok.0).1 in
     due_kept v key (DidTerminate key) items ok.1 kept (channel_sends v key (DidTerminate key) items (same_key_refl key) ok (known_unrejected v key items ok.1 (kept_known v key items kept)))
-due_by_book v (Got place key (Offer name size)) items ok = channel_sends v key (Got place key (Offer name size)) items (same_key_refl key) ok (unoffered_unrejected key items (fresh_offer v key name size items ok.1).1)
-due_by_book v (Got place key (OfferAccepted size)) items ok = frame_found v place key (OfferAccepted size) items ok (later_tells v key (OfferAccepted size) items ok.1) refl
-due_by_book v (Got place key (Content bytes)) items ok = frame_found v place key (Content bytes) items ok (later_tells v key (Content bytes) items ok.1) refl
-due_by_book v (Got place key ContentWritingCompleted) items ok = frame_found v place key ContentWritingCompleted items ok (later_tells v key ContentWritingCompleted items ok.1) refl
-due_by_book v (Got place key ChannelTerminated) items ok = frame_found v place key ChannelTerminated items ok (later_tells v key ChannelTerminated items ok.1) refl
-due_by_book v (Got place key (ContentProcessed count)) items ok = frame_found v place key (ContentProcessed count) items ok (later_tells v key (ContentProcessed count) items ok.1) refl
+due_by_book v (Got place key (Offer name size)) items ok = channel_sends v key (Got place key (Offer name size)) items (same_key_refl key) ok (unoffered_unrejected key items (fresh_offer v key name size items ok.0.unrefused).1)
+due_by_book v (Got place key (OfferAccepted size)) items ok = frame_found v place key (OfferAccepted size) items ok (later_tells v key (OfferAccepted size) items ok.0.unrefused) refl
+due_by_book v (Got place key (Content bytes)) items ok = frame_found v place key (Content bytes) items ok (later_tells v key (Content bytes) items ok.0.unrefused) refl
+due_by_book v (Got place key ContentWritingCompleted) items ok = frame_found v place key ContentWritingCompleted items ok (later_tells v key ContentWritingCompleted items ok.0.unrefused) refl
+due_by_book v (Got place key ChannelTerminated) items ok = frame_found v place key ChannelTerminated items ok (later_tells v key ChannelTerminated items ok.0.unrefused) refl
+due_by_book v (Got place key (ContentProcessed count)) items ok = frame_found v place key (ContentProcessed count) items ok (later_tells v key (ContentProcessed count) items ok.0.unrefused) refl
 due_by_book v (Rejected place key body) items ok = refl
 due_by_book v (End cause) items ok = refl
 
@@ -172,8 +172,8 @@ event_kept v c body items ok offered ignored = elim (cases_Bool (is_known c item
 -- the event of a frame that no rule refuses
 pub event_by_book : (v : Version) (place : ℕ) (c : ChannelKey) (body : FrameBody) (items : List Item) → Allowed v (Got place c body ∷ items) → frame_event v c body items ≡ event_in c body (book_of v items)
 event_by_book v place c (Offer name size) items ok = refl
-event_by_book v place c (OfferAccepted size) items ok = event_kept v c (OfferAccepted size) items ok.3 (later_tells v c (OfferAccepted size) items ok.1) (λ e f. rw e refl)
-event_by_book v place c (Content bytes) items ok = event_kept v c (Content bytes) items ok.3 (later_tells v c (Content bytes) items ok.1) (λ e f. rw e refl)
-event_by_book v place c ContentWritingCompleted items ok = event_kept v c ContentWritingCompleted items ok.3 (later_tells v c ContentWritingCompleted items ok.1) (λ e f. rw e refl)
-event_by_book v place c ChannelTerminated items ok = event_kept v c ChannelTerminated items ok.3 (later_tells v c ChannelTerminated items ok.1) (λ e f. ap (λ b. if b then event.Ignored c else event.Closed c) f)
-event_by_book v place c (ContentProcessed count) items ok = event_kept v c (ContentProcessed count) items ok.3 (later_tells v c (ContentProcessed count) items ok.1) (λ e f. rw e refl)
+event_by_book v place c (OfferAccepted size) items ok = event_kept v c (OfferAccepted size) items ok.2 (later_tells v c (OfferAccepted size) items ok.0.unrefused) (λ e f. rw e refl)
+event_by_book v place c (Content bytes) items ok = event_kept v c (Content bytes) items ok.2 (later_tells v c (Content bytes) items ok.0.unrefused) (λ e f. rw e refl)
+event_by_book v place c ContentWritingCompleted items ok = event_kept v c ContentWritingCompleted items ok.2 (later_tells v c ContentWritingCompleted items ok.0.unrefused) (λ e f. rw e refl)
+event_by_book v place c ChannelTerminated items ok = event_kept v c ChannelTerminated items ok.2 (later_tells v c ChannelTerminated items ok.0.unrefused) (λ e f. ap (λ b. if b then event.Ignored c else event.Closed c) f)
+event_by_book v place c (ContentProcessed count) items ok = event_kept v c (ContentProcessed count) items ok.2 (later_tells v c (ContentProcessed count) items ok.0.unrefused) (λ e f. rw e refl)

@@ -85,11 +85,11 @@ blank_step v c (DidRead key max) items named ok e older = clash (is_offered c it
 blank_step v c (DidComplete key) items named ok e older = clash (is_offered c items) (offered_by_key c key items named (kept_offered v key items (complete_tells v key items ok.0).1)) e
 blank_step v c (DidTerminate key) items named ok e older = clash (is_offered c items) (offered_by_key c key items named (kept_offered v key items (terminate_tells v key items ok.0).1)) e
 blank_step v c (Got place key (Offer name size)) items named ok e older = clash (is_offered c (Got place key (Offer name size) ∷ items)) (if_left (same_key key c) (is_offered c items) named) e
-blank_step v c (Got place key (OfferAccepted size)) items named ok e older = clash (is_offered c items) (offered_by_key c key items named (later_tells v key (OfferAccepted size) items ok.1)) e
-blank_step v c (Got place key (Content bytes)) items named ok e older = clash (is_offered c items) (offered_by_key c key items named (later_tells v key (Content bytes) items ok.1)) e
-blank_step v c (Got place key ContentWritingCompleted) items named ok e older = clash (is_offered c items) (offered_by_key c key items named (later_tells v key ContentWritingCompleted items ok.1)) e
-blank_step v c (Got place key ChannelTerminated) items named ok e older = clash (is_offered c items) (offered_by_key c key items named (later_tells v key ChannelTerminated items ok.1)) e
-blank_step v c (Got place key (ContentProcessed count)) items named ok e older = clash (is_offered c items) (offered_by_key c key items named (later_tells v key (ContentProcessed count) items ok.1)) e
+blank_step v c (Got place key (OfferAccepted size)) items named ok e older = clash (is_offered c items) (offered_by_key c key items named (later_tells v key (OfferAccepted size) items ok.0.unrefused)) e
+blank_step v c (Got place key (Content bytes)) items named ok e older = clash (is_offered c items) (offered_by_key c key items named (later_tells v key (Content bytes) items ok.0.unrefused)) e
+blank_step v c (Got place key ContentWritingCompleted) items named ok e older = clash (is_offered c items) (offered_by_key c key items named (later_tells v key ContentWritingCompleted items ok.0.unrefused)) e
+blank_step v c (Got place key ChannelTerminated) items named ok e older = clash (is_offered c items) (offered_by_key c key items named (later_tells v key ChannelTerminated items ok.0.unrefused)) e
+blank_step v c (Got place key (ContentProcessed count)) items named ok e older = clash (is_offered c items) (offered_by_key c key items named (later_tells v key (ContentProcessed count) items ok.0.unrefused)) e
 blank_step v c (Rejected place key body) items named ok e older = clash (is_offered c (Rejected place key body ∷ items)) (if_left (same_key key c) (is_offered c items) named) e
 blank_step v c (End cause) items named ok e older = ap ended_state older
 

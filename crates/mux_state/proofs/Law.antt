@@ -44,8 +44,8 @@ offer_of (ContentProcessed count) e = absurd (false≢true e)
 -- a rejected offer is an offer, and its channel's first
 pub fresh_rejection : (v : Version) (place : ℕ) (c : ChannelKey) (body : FrameBody) (items : List Item) → Allowed v (Rejected place c body ∷ items) → (c.own ≡ false) × (is_offered c items ≡ false)
 fresh_rejection v place c body items ok =
-    let o = offer_of body (and_parts (is_offer body) (nat_le most_channels (length (kept_keys v items))) ok.2).0 in
-    fresh_offer v c o.0 o.1 items (subst (λ b. frame_refusal v c b items ≡ None) o.2 ok.1)
+    let o = offer_of body (and_parts (is_offer body) (nat_le most_channels (length (kept_keys v items))) ok.1).0 in
+    fresh_offer v c o.0 o.1 items (subst (λ b. frame_refusal v c b items ≡ None) o.2 ok.0.unrefused)
 
 by_peer_key : {A : Type 0} (c key : ChannelKey) → same_key key c ≡ true → key.own ≡ false → c.own ≡ true → A
 by_peer_key c key same theirs own = absurd (true≢false (sym own ∙ (sym (ap (λ k. k.own) (same_key_true key c same)) ∙ theirs)))
@@ -57,18 +57,18 @@ else_of false x e f = f
 -- the ids of own offers are at most the last that was drawn
 own_bound : (v : Version) (c : ChannelKey) (items : List Item) → Allowed v items → is_offered c items ≡ true → c.own ≡ true → c.id ≤ own_id (party_of items) (own_offers items)
 own_bound v c [] ok e own = absurd (false≢true e)
-own_bound v c (Hello party ∷ items) ok e own = omega (arith, own_bound v c items ok.2 e own, ap (λ g. own_id (party_or_neither g) (own_offers items)) ok.1, neither_least party (own_offers items))
+own_bound v c (Hello party ∷ items) ok e own = omega (arith, own_bound v c items ok.1 e own, ap (λ g. own_id (party_or_neither g) (own_offers items)) ok.0.once, neither_least party (own_offers items))
 own_bound v c (DidOffer key name size ∷ items) ok e own = elim (cases_Bool (same_key key c)) [
   | inl same ↦ omega (arith, ap (λ k. k.id) (sym (same_key_true key c same) ∙ ok.1))
   | inr differ ↦ omega (arith, own_bound v c items ok.2 (else_of (same_key key c) (is_offered c items) differ e) own, id_grows (party_of items) (own_offers items))
 ]
 own_bound v c (Got place key (Offer name size) ∷ items) ok e own = elim (cases_Bool (same_key key c)) [
-  | inl same ↦ by_peer_key c key same (fresh_offer v key name size items ok.1).0 own
-  | inr differ ↦ own_bound v c items ok.3 (else_of (same_key key c) (is_offered c items) differ e) own
+  | inl same ↦ by_peer_key c key same (fresh_offer v key name size items ok.0.unrefused).0 own
+  | inr differ ↦ own_bound v c items ok.2 (else_of (same_key key c) (is_offered c items) differ e) own
 ]
 own_bound v c (Rejected place key body ∷ items) ok e own = elim (cases_Bool (same_key key c)) [
   | inl same ↦ by_peer_key c key same (fresh_rejection v place key body items ok).0 own
-  | inr differ ↦ own_bound v c items ok.3 (else_of (same_key key c) (is_offered c items) differ e) own
+  | inr differ ↦ own_bound v c items ok.2 (else_of (same_key key c) (is_offered c items) differ e) own
 ]
 own_bound v c (item ∷ items) ok e own = own_bound v c items (allowed_tail v item items ok) e own
 
@@ -107,13 +107,13 @@ channel_offered v c name size items ok =
     channel_open v c (DidOffer c name size) items ok o.heard o.uncut o.unrejected ∙ ap settled (absorbed_offered v c name size items ok)
 
 pub open_heard : (v : Version) (place : ℕ) (c : ChannelKey) (name : List ℕ) (size : Option ℕ) (items : List Item) → Allowed v (Got place c (Offer name size) ∷ items) → IsOpen v c items
-open_heard v place c name size items ok = (offered_open v c items ok.3 ok.0 (fresh_offer v c name size items ok.1).1).1
+open_heard v place c name size items ok = (offered_open v c items ok.2 ok.0.running (fresh_offer v c name size items ok.0.unrefused).1).1
 
 pub absorbed_heard : (v : Version) (place : ℕ) (c : ChannelKey) (name : List ℕ) (size : Option ℕ) (items : List Item) → Allowed v (Got place c (Offer name size) ∷ items) → unsent v c (Got place c (Offer name size)) items ≡ heard_state v (window_of size)
 absorbed_heard v place c name size items ok =
     let item = Got place c (Offer name size) in
-    let fresh = fresh_offer v c name size items ok.1 in
-    let o = offered_open v c items ok.3 ok.0 fresh.1 in
+    let fresh = fresh_offer v c name size items ok.0.unrefused in
+    let o = offered_open v c items ok.2 ok.0.running fresh.1 in
     same_state (unsent v c item items) (heard_state v (window_of size)) refl fresh.0 (ap (λ s. s.window) o.0) (ap (λ s. s.accepted) o.0) (ap (λ s. s.written) o.0)
     (pending_open (is_cut c items) (emitted v c items) (written c items) o.1.uncut (ap (λ s. s.pending) o.0)) (ap (λ s. s.emitted) o.0) (ap (λ s. s.completing) o.0) (ap (λ s. s.completion_sent) o.0)
     (rw (same_key_refl c, o.1.heard) (omega (arith, ap (λ s. s.granted) o.0))) (ap (λ s. s.acknowledged) o.0)
@@ -132,11 +132,11 @@ heard_or_sent v c items running f g = elim (cases_Bool (termination_emitted v c 
 
 frame_step : (v : Version) (place : ℕ) (c : ChannelKey) (body : FrameBody) (items : List Item) → Allowed v (Got place c body ∷ items) → is_rejected c items ≡ false → channel_at v c (Got place c body ∷ items) ≡ next_state (Got place c body) (channel_at v c items)
 frame_step v place c (Offer name size) items ok unrejected = channel_heard v place c name size items ok
-frame_step v place c (OfferAccepted size) items ok unrejected = heard_or_sent v c items ok.0 (λ o. heard_answer v place c size items ok o) (λ sent. ignored_answer v place c size items ok sent unrejected)
-frame_step v place c (Content bytes) items ok unrejected = heard_or_sent v c items ok.0 (λ o. heard_content v place c bytes items ok o) (λ sent. ignored_content v place c bytes items ok sent unrejected)
-frame_step v place c ContentWritingCompleted items ok unrejected = heard_or_sent v c items ok.0 (λ o. heard_completion v place c items ok o) (λ sent. ignored_completion v place c items ok sent unrejected)
+frame_step v place c (OfferAccepted size) items ok unrejected = heard_or_sent v c items ok.0.running (λ o. heard_answer v place c size items ok o) (λ sent. ignored_answer v place c size items ok sent unrejected)
+frame_step v place c (Content bytes) items ok unrejected = heard_or_sent v c items ok.0.running (λ o. heard_content v place c bytes items ok o) (λ sent. ignored_content v place c bytes items ok sent unrejected)
+frame_step v place c ContentWritingCompleted items ok unrejected = heard_or_sent v c items ok.0.running (λ o. heard_completion v place c items ok o) (λ sent. ignored_completion v place c items ok sent unrejected)
 frame_step v place c ChannelTerminated items ok unrejected = channel_closed v place c items
-frame_step v place c (ContentProcessed count) items ok unrejected = heard_or_sent v c items ok.0 (λ o. heard_credit v place c count items ok o) (λ sent. ignored_credit v place c count items ok sent unrejected)
+frame_step v place c (ContentProcessed count) items ok unrejected = heard_or_sent v c items ok.0.running (λ o. heard_credit v place c count items ok o) (λ sent. ignored_credit v place c count items ok sent unrejected)
 
 terminated_settled : (v : Version) (c : ChannelKey) (items : List Item) → channel_at v c (DidTerminate c ∷ items) ≡ next_state (DidTerminate c) (channel_at v c items)
 terminated_settled v c items = channel_terminated v c items

@@ -6,7 +6,7 @@ use Rattle.wire_base.specs.declared.frame.Version.{Version}
 use Rattle.mux_items.specs.declared.channel.ChannelKey.{ChannelKey}
 use Rattle.mux_items.specs.Bodies.{FrameBody, Offer, OfferAccepted, Content, ContentWritingCompleted, ChannelTerminated, ContentProcessed}
 use Rattle.mux_items.specs.Items.{Item, ended}
-use Rattle.mux_items.specs.Lists.{written, emitted, is_cut, is_offered, is_rejected, termination_emitted}
+use Rattle.mux_items.specs.Lists.{written, emitted, has_terminated, is_terminated_by_peer, is_cut, is_finished, is_offered, is_rejected, termination_emitted}
 use Rattle.mux_items.specs.Kept.{is_known, is_kept, own_windows}
 use Rattle.mux_items.specs.Refusals.{unless_ended, accept_refusal, write_refusal, read_refusal, complete_refusal, terminate_refusal, later_refusal, heeded_refusal}
 use Rattle.mux_items.specs.Views.{view_of, tally_of}
@@ -15,21 +15,32 @@ use Rattle.std.proofs.lemmas.List.{length-drop}
 use Rattle.mux_state.specs.State.{pending_bytes, channel_at, state_of, kept_state}
 use Rattle.mux_state.specs.Tests.{accept_test, write_test, writing_test, read_test, open_test, on_kept, frame_test, heeded_test, event_on, stays_kept, view_in, view_on, tally_on}
 
+or_again : (h p r f : Bool) → (((h || p || r || f) || p)) ≡ (h || p || r || f)
+or_again true p r f = refl
+or_again false true r f = refl
+or_again false false true f = refl
+or_again false false false true = refl
+or_again false false false false = refl
+
+-- after the peer's termination the own one is sent
+peer_sent : (v : Version) (c : ChannelKey) (items : List Item) → (termination_emitted v c items || is_terminated_by_peer c items) ≡ termination_emitted v c items
+peer_sent v c items = or_again (has_terminated c items) (is_terminated_by_peer c items) (is_rejected c items) (is_finished v c items)
+
 pub write_by_state : (v : Version) (c : ChannelKey) (bytes : List ℕ) (items : List Item) → write_refusal v c bytes items ≡ unless_ended (ended items) (on_kept (kept_state v c items) (write_test bytes))
 write_by_state v c bytes items = elim (cases_Bool (is_kept v c items)) [
-  | inl e ↦ rw e refl
+  | inl e ↦ rw (e, peer_sent v c items) refl
   | inr e ↦ rw e refl
 ]
 
 pub complete_by_state : (v : Version) (c : ChannelKey) (items : List Item) → complete_refusal v c items ≡ unless_ended (ended items) (on_kept (kept_state v c items) writing_test)
 complete_by_state v c items = elim (cases_Bool (is_kept v c items)) [
-  | inl e ↦ rw e refl
+  | inl e ↦ rw (e, peer_sent v c items) refl
   | inr e ↦ rw e refl
 ]
 
 pub terminate_by_state : (v : Version) (c : ChannelKey) (items : List Item) → terminate_refusal v c items ≡ unless_ended (ended items) (on_kept (kept_state v c items) open_test)
 terminate_by_state v c items = elim (cases_Bool (is_kept v c items)) [
-  | inl e ↦ rw e refl
+  | inl e ↦ rw (e, peer_sent v c items) refl
   | inr e ↦ rw e refl
 ]
 
@@ -41,7 +52,7 @@ read_by_state v c items = elim (cases_Bool (is_kept v c items)) [
 
 pub accept_by_state : (v : Version) (c : ChannelKey) (size : ℕ) (items : List Item) → accept_refusal v c size items ≡ unless_ended (ended items) (on_kept (kept_state v c items) (accept_test (own_windows v items) size))
 accept_by_state v c size items = elim (cases_Bool (is_kept v c items)) [
-  | inl e ↦ rw e refl
+  | inl e ↦ rw (e, peer_sent v c items) refl
   | inr e ↦ rw e refl
 ]
 

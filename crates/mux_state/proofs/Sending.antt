@@ -107,17 +107,17 @@ due_terminated v c items heard =
 
 frame_due : (v : Version) (place : ℕ) (c : ChannelKey) (body : FrameBody) (items : List Item) → Allowed v (Got place c body ∷ items) → is_rejected c items ≡ false → due v (Got place c body) items ≡ due_in c (is_running items) (Got place c body) (channel_at v c items)
 frame_due v place c (Offer name size) items ok unrejected = let o = open_heard v place c name size items ok in due_absorbed v c [] (Got place c (Offer name size)) items _ ok o o.uncut unrejected (absorbed_heard v place c name size items ok)
-frame_due v place c (OfferAccepted size) items ok unrejected = heard_or_sent v c items ok.0
+frame_due v place c (OfferAccepted size) items ok unrejected = heard_or_sent v c items ok.0.running
     (λ o. due_absorbed v c [] (Got place c (OfferAccepted size)) items _ ok o o.uncut unrejected (absorbed_answer v place c size items o))
     (λ sent. due_ignored v c (Got place c (OfferAccepted size)) items _ ok sent unrejected refl refl)
-frame_due v place c (Content bytes) items ok unrejected = heard_or_sent v c items ok.0
+frame_due v place c (Content bytes) items ok unrejected = heard_or_sent v c items ok.0.running
     (λ o. due_absorbed v c [] (Got place c (Content bytes)) items _ ok o o.uncut unrejected (absorbed_content v place c bytes items o))
     (λ sent. due_ignored v c (Got place c (Content bytes)) items _ ok sent unrejected refl refl)
-frame_due v place c ContentWritingCompleted items ok unrejected = heard_or_sent v c items ok.0
+frame_due v place c ContentWritingCompleted items ok unrejected = heard_or_sent v c items ok.0.running
     (λ o. due_absorbed v c [] (Got place c ContentWritingCompleted) items _ ok o o.uncut unrejected (absorbed_completion v place c items o))
     (λ sent. due_ignored v c (Got place c ContentWritingCompleted) items _ ok sent unrejected refl refl)
 frame_due v place c ChannelTerminated items ok unrejected = due_closed v place c items
-frame_due v place c (ContentProcessed count) items ok unrejected = heard_or_sent v c items ok.0
+frame_due v place c (ContentProcessed count) items ok unrejected = heard_or_sent v c items ok.0.running
     (λ o. due_absorbed v c [] (Got place c (ContentProcessed count)) items _ ok o o.uncut unrejected (absorbed_credit v place c count items o))
     (λ sent. due_ignored v c (Got place c (ContentProcessed count)) items _ ok sent unrejected refl refl)
 

@@ -1,5 +1,5 @@
 -- What an end keeps of all its channels.
-use Rattle.std.specs.Prelude.{ℕ, ◌+◌, List, [], ◌∷◌, ◌++◌, length, map, filter, sum_by, Bool, true, false, not, ◌&&◌, ◌||◌, nat_lt, nat_le, if◌then◌else◌, Option, Some, None, is_none}
+use Rattle.std.specs.Prelude.{◌≡◌, ℕ, ◌+◌, List, [], ◌∷◌, ◌++◌, length, map, filter, sum_by, Bool, true, false, not, ◌&&◌, ◌||◌, nat_lt, nat_le, if◌then◌else◌, Option, Some, None, is_none}
 use Rattle.std.specs.List.{list_any}
 use Rattle.wire_base.specs.declared.frame.Version.{Version}
 use Rattle.wire_base.specs.declared.state.Cause.{Cause}
@@ -146,6 +146,11 @@ tally_found (Some (Gone tally)) = Some tally
 
 abbrev pub known_in : Book → List ChannelKey
 known_in book = map (λ entry. entry.key) book.entries
+
+-- no channel stands twice
+abbrev pub AreApart : List ChannelKey → Type 0
+AreApart [] = Unit {0}
+AreApart (c ∷ cs) = (list_any (same_key c) cs ≡ false) × AreApart cs
 
 -- a channel after a change: kept, or gone with what came of it
 abbrev pub moved : ChannelState → Standing
