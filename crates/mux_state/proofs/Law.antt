@@ -55,7 +55,7 @@ else_of true x e f = absurd (true≢false e)
 else_of false x e f = f
 
 -- the ids of own offers are at most the last that was drawn
-own_bound : (v : Version) (c : ChannelKey) (items : List Item) → Allowed v items → is_offered c items ≡ true → c.own ≡ true → c.id ≤ own_id (party_of items) (own_offers items)
+pub own_bound : (v : Version) (c : ChannelKey) (items : List Item) → Allowed v items → is_offered c items ≡ true → c.own ≡ true → c.id ≤ own_id (party_of items) (own_offers items)
 own_bound v c [] ok e own = absurd (false≢true e)
 own_bound v c (Hello party ∷ items) ok e own = omega (arith, own_bound v c items ok.1 e own, ap (λ g. own_id (party_or_neither g) (own_offers items)) ok.0.once, neither_least party (own_offers items))
 own_bound v c (DidOffer key name size ∷ items) ok e own = elim (cases_Bool (same_key key c)) [

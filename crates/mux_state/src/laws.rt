@@ -1,6 +1,6 @@
 //! The laws of a channel's states.
 
-ghost use Rattle.std.specs.Prelude.{◌≡◌, ◌∷◌, ◌++◌, ℕ, List, Some, not, true, false};
+ghost use Rattle.std.specs.Prelude.{◌≡◌, ◌≤◌, ◌*◌, [], ◌∷◌, ◌++◌, ℕ, List, Some, not, true, false};
 ghost use Rattle.wire_base.specs.declared.frame.Version.{Version};
 ghost use Rattle.mux_items.specs.declared.channel.ChannelKey.{ChannelKey};
 ghost use Rattle.mux_items.specs.Bodies.{FrameBody};
@@ -8,13 +8,14 @@ ghost use Rattle.mux_items.specs.Items.{Item, Got, names, ended, is_running};
 ghost use Rattle.mux_items.specs.Lists.{is_offered, is_rejected};
 ghost use Rattle.mux_items.specs.Kept.{is_known, is_kept, next_key, own_windows};
 ghost use Rattle.mux_items.specs.Due.{due};
-ghost use Rattle.mux_items.specs.Refusals.{unless_ended, accept_refusal, write_refusal, read_refusal, complete_refusal, terminate_refusal, later_refusal, offer_refusal, frame_refusal};
+ghost use Rattle.mux_items.specs.Limits.{most_offers};
+ghost use Rattle.mux_items.specs.Refusals.{is_ready, unless_ended, accept_refusal, write_refusal, read_refusal, complete_refusal, terminate_refusal, later_refusal, offer_refusal, frame_refusal};
 ghost use Rattle.mux_items.specs.Applying.{Allowed, lacks_room, frame_event};
 ghost use Rattle.mux_items.specs.Views.{view_of, tally_of, known_keys};
 ghost use Rattle.mux_state.specs.State.{ChannelState, blank, channel_at, state_of, kept_state};
 ghost use Rattle.mux_state.specs.Next.{frames_due, next_on, settled};
 ghost use Rattle.mux_state.specs.Emitting.{due_of, sent_frames, sent_state};
-ghost use Rattle.mux_state.specs.Book.{book_of, due_of_book, drawn_key, event_in, found, frame_in, has_room, kept_in, known_in, next_book, offer_test, tally_found, windows_in};
+ghost use Rattle.mux_state.specs.Book.{AreApart, Kept, book_of, due_of_book, drawn_key, empty_book, event_in, found, frame_in, has_offer, has_room, is_ready_book, kept_in, known_in, own_count, next_book, offer_test, tally_found, windows_in};
 ghost use Rattle.mux_state.specs.Tests.{accept_test, due_in, event_on, frame_test, on_kept, open_test, read_test, stays_kept, tally_on, view_on, write_test, writing_test};
 
 /// One more item makes of a channel what it makes of its state before it.
@@ -66,4 +67,14 @@ pub fn an_end_is_its_book()
     ensures view { (v : Version) (c : ChannelKey) (items : List Item) → view_of v c items ≡ view_on (kept_in (found c (book_of v items))) }
     ensures tally { (v : Version) (c : ChannelKey) (items : List Item) → tally_of v c items ≡ tally_found (found c (book_of v items)) }
     ensures known { (v : Version) (items : List Item) → known_keys items ≡ known_in (book_of v items) }
+    ensures ready { (v : Version) (items : List Item) → is_ready v items ≡ is_ready_book (book_of v items) }
+    ensures start { (v : Version) → book_of v [] ≡ empty_book v }
+{}
+
+/// The channels of a book are apart, its kept ones stay kept, and its own offers and their ids are within their limits.
+pub fn a_book_is_sound()
+    ensures apart { (v : Version) (items : List Item) → Allowed v items → AreApart (known_in (book_of v items)) }
+    ensures kept { (v : Version) (c : ChannelKey) (now : ChannelState) (items : List Item) → found c (book_of v items) ≡ Some (Kept now) → stays_kept now ≡ true }
+    ensures offers { (v : Version) (items : List Item) → Allowed v items → own_count (book_of v items) ≤ most_offers }
+    ensures ids { (v : Version) (c : ChannelKey) (items : List Item) → Allowed v items → c.own ≡ true → has_offer c (book_of v items) ≡ true → c.id ≤ 2 * most_offers }
 {}

@@ -7,5 +7,6 @@ mod laws;
 
 pub use due::Due;
 pub use laws::{
-    a_channel_sends, a_channel_steps, a_state_tells, an_end_is_its_book, frames_go_one_by_one,
+    a_book_is_sound, a_channel_sends, a_channel_steps, a_state_tells, an_end_is_its_book,
+    frames_go_one_by_one,
 };

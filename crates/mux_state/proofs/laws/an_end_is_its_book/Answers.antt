@@ -1,3 +1,4 @@
+use Rattle.std.proofs.Common.{refl}
 use Rattle.mux_state.proofs.Books.{accept_by_book, write_by_book, read_by_book, complete_by_book, terminate_by_book, offer_by_book, drawn_is, frame_by_book, room_by_book, view_by_book, tally_by_book, known_by_book}
 use Rattle.mux_state.proofs.Booking.{book_step}
 use Rattle.mux_state.proofs.Dues.{due_by_book, event_by_book}
@@ -20,4 +21,6 @@ returns c = record {
   view = view_by_book;
   tally = tally_by_book;
   known = known_by_book;
+  ready = λ v items. refl;
+  start = λ v. refl;
 }
