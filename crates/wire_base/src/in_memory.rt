@@ -1,8 +1,10 @@
 //! A source and a sink in memory, whose calls fail where they are told to.
 
-ghost use Rattle.std.specs.Prelude.{◌≡◌, ◌++◌, ◌∷◌, [], length, drop, slice_get, false, IsTrue, ◌↔◌, Contains, Some, OnOk, OnErr};
+ghost use Rattle.std.specs.Prelude.{◌≡◌, ◌≤◌, ◌<◌, ◌++◌, ◌∷◌, [], length, drop, slice_get, false, IsTrue, IsErr, ◌↔◌, Contains, Some, OnOk, OnErr, IfOk};
 ghost use Rattle.std.specs.Option.{option_copied};
-ghost use Rattle.wire_base.specs.Memory.{source_held, source_faults, source_ended, sink_given, sink_faults, sink_flushed};
+ghost use Rattle.wire_base.specs.Causes.{HasCause};
+ghost use Rattle.wire_base.specs.Memory.{source_held, source_calls, source_failing, source_faults, source_ended, sink_given, sink_calls, sink_failing, sink_faults, sink_flushed, one_more};
+ghost use Rattle.wire_base.specs.Streams.{Moves, EndsExactly, Takes, answered_0, answered_ok};
 
 use crate::blob::Blob;
 use crate::out_of_memory::OutOfMemory;
@@ -80,6 +82,8 @@ impl MemSource {
     /// A source of these bytes, whose reads with these numbers fail.
     pub fn new(bytes: Blob, failing: Calls) -> MemSource
         ensures held { source_held result ≡ Some bytes }
+        ensures failing { source_failing result ≡ failing }
+        ensures calls { source_calls result ≡ 0 }
         ensures faults { source_faults result ≡ 0 }
         ensures ended { source_ended result ≡ false }
     {
@@ -107,7 +111,19 @@ impl Source for MemSource {
 
     ghost ended = { source_ended };
 
-    fn read(&mut self, buf: &mut [u8]) -> Result<usize, Failed> {
+    fn read(&mut self, buf: &mut [u8]) -> Result<usize, Failed>
+        requires { 0 < length buf.old }
+        ensures bound { IfOk result (λ n. n ≤ length buf.new) }
+        ensures bytes { Moves (source_held self.old) (source_held self.new) result buf.new }
+        ensures end { EndsExactly (source_held self.old) result }
+        ensures ended { source_ended self.new ≡ answered_0 result }
+        ensures cause { HasCause (source_faults self.old) (source_faults self.new) result }
+        // It fails exactly where its number is listed, and a fault is counted there alone.
+        ensures fails { IsErr result ↔ Contains (source_failing self.old) (one_more (source_calls self.old)) }
+        ensures counted { OnOk result (source_faults self.new ≡ source_faults self.old) }
+        ensures calls { source_calls self.new ≡ one_more (source_calls self.old) }
+        ensures failing { source_failing self.new ≡ source_failing self.old }
+    {
         self.calls = self.calls.saturating_add(1);
         if self.failing.has(self.calls) {
             self.faults = self.faults.saturating_add(1);
@@ -137,6 +153,8 @@ impl MemSink {
     /// A sink that was given nothing, whose writes and flushes with these numbers fail.
     pub fn new(alloc: Global, failing: Calls) -> MemSink
         ensures given { sink_given result ≡ Some [] }
+        ensures failing { sink_failing result ≡ failing }
+        ensures calls { sink_calls result ≡ 0 }
         ensures faults { sink_faults result ≡ 0 }
         ensures flushed { sink_flushed result ≡ false }
     {
@@ -164,7 +182,20 @@ impl Sink for MemSink {
 
     ghost flushed = { sink_flushed };
 
-    fn write(&mut self, piece: &[u8]) -> Result<usize, Failed> {
+    fn write(&mut self, piece: &[u8]) -> Result<usize, Failed>
+        requires { 0 < length piece.now }
+        ensures bound { IfOk result (λ n. n ≤ length piece.now) }
+        ensures some { IfOk result (λ n. 0 < n) }
+        ensures bytes { Takes (sink_given self.old) (sink_given self.new) result piece.now }
+        ensures flushed { sink_flushed self.new ≡ false }
+        ensures cause { HasCause (sink_faults self.old) (sink_faults self.new) result }
+        // It fails where its number is listed, and otherwise only for want of memory. It never takes less than the piece.
+        ensures fails { Contains (sink_failing self.old) (one_more (sink_calls self.old)) → IsErr result }
+        ensures whole { IfOk result (λ n. n ≡ length piece.now) }
+        ensures counted { OnOk result (sink_faults self.new ≡ sink_faults self.old) }
+        ensures calls { sink_calls self.new ≡ one_more (sink_calls self.old) }
+        ensures failing { sink_failing self.new ≡ sink_failing self.old }
+    {
         self.calls = self.calls.saturating_add(1);
         self.flushed = false;
         if self.failing.has(self.calls) || self.given.extend_from_slice(piece).is_err() {
@@ -174,7 +205,16 @@ impl Sink for MemSink {
         Ok(piece.len())
     }
 
-    fn flush(&mut self) -> Result<(), Failed> {
+    fn flush(&mut self) -> Result<(), Failed>
+        ensures bytes { sink_given self.new ≡ sink_given self.old }
+        ensures flushed { sink_flushed self.new ≡ answered_ok result }
+        ensures cause { HasCause (sink_faults self.old) (sink_faults self.new) result }
+        // It fails exactly where its number is listed.
+        ensures fails { IsErr result ↔ Contains (sink_failing self.old) (one_more (sink_calls self.old)) }
+        ensures counted { OnOk result (sink_faults self.new ≡ sink_faults self.old) }
+        ensures calls { sink_calls self.new ≡ one_more (sink_calls self.old) }
+        ensures failing { sink_failing self.new ≡ sink_failing self.old }
+    {
         self.calls = self.calls.saturating_add(1);
         if self.failing.has(self.calls) {
             self.faults = self.faults.saturating_add(1);

@@ -288,3 +288,17 @@ fn reasons_have_numbers_and_names(rt: HostRuntime) {
         assert_eq!(rt; refusal.name(), name);
     }
 }
+
+#[test]
+fn nothing_takes_no_memory(rt: HostRuntime) -> Result<(), Fail> {
+    let alloc = rt.alloc();
+    assert_eq!(rt;
+        Blob::from_bytes(alloc, &[])?.copy(alloc)?.as_bytes(),
+        [].as_slice()
+    );
+    assert_eq!(rt; Text::from_str(alloc, "")?.copy(alloc)?.as_str(), "");
+    assert_eq!(rt; Text::from_utf8(alloc, &[])?.as_str(), "");
+    assert_eq!(rt; DatumList::new(alloc).copy(alloc)?.len(), 0);
+    assert_eq!(rt; PairList::new(alloc).copy(alloc)?.len(), 0);
+    Ok(())
+}
