@@ -1,5 +1,5 @@
 -- Readings of one stream are one.
-use Rattle.std.proofs.Common.{◌≡◌, ◌≢◌, ℕ, ◌+◌, ◌-◌, ◌≤◌, List, [], ◌∷◌, ◌++◌, length, drop, refl, sym, ap, subst, ◌∙◌, arith, length-append, length-drop}
+use Rattle.std.proofs.Common.{◌≡◌, ◌≢◌, ℕ, ◌+◌, ◌-◌, ◌≤◌, Bool, List, [], ◌∷◌, ◌++◌, length, drop, refl, sym, ap, subst, ◌∙◌, arith, length-append, length-drop}
 use Rattle.std.specs.List.{concat}
 use Rattle.wire_base.specs.declared.frame.Frame.{Frame}
 use Rattle.wire_base.specs.declared.frame.Version.{Version}
@@ -71,21 +71,21 @@ all_given v at stream (x ∷ xs) (y ∷ ys) a b h none k =
 
 -- ---- readers
 
-unread_is : (v w : Version) (m n : ℕ) (s t : List ℕ) (k l : ℕ) → v ≡ w → m ≡ n → s ≡ t → k ≡ l → (let left : Unread = record { version = v; at = m; rest = s; fed = k } in left) ≡ record { version = w; at = n; rest = t; fed = l }
-unread_is v w m n s t k l p q r e = rw (p, q, r, e) refl
+unread_is : (v w : Version) (m n : ℕ) (s t : List ℕ) (k l : ℕ) (begun : Bool) → v ≡ w → m ≡ n → s ≡ t → k ≡ l → (let left : Unread = record { version = v; at = m; rest = s; fed = k; begun = begun } in left) ≡ record { version = w; at = n; rest = t; fed = l; begun = begun }
+unread_is v w m n s t k l begun p q r e = rw (p, q, r, e) refl
 
 pub pieces_given : (a b : Unread) (start : ℕ) (pieces others : List (List ℕ)) (given more : List Placed) → a.version ≡ b.version → concat pieces ≡ concat others → Reads a start (concat pieces) given → Reads b start (concat others) more → length given ≤ length more → (later : List Placed) × (more ≡ given ++ later)
 pieces_given a b start pieces others given more v s h k le =
     let begins : Begins a.version start (concat pieces) more b.rest = rw (v, s) k.begins in
     first_given a.version start (concat pieces) given more a.rest b.rest h.begins begins le
 
-pub pieces_left : (a b : Unread) (start : ℕ) (pieces others : List (List ℕ)) (given more : List Placed) → a.version ≡ b.version → concat pieces ≡ concat others → Reads a start (concat pieces) given → Reads b start (concat others) more → length given ≡ length more → (given ≡ more) × (a ≡ b)
+pub pieces_left : (a b : Unread) (start : ℕ) (pieces others : List (List ℕ)) (given more : List Placed) → a.version ≡ b.version → concat pieces ≡ concat others → Reads a start (concat pieces) given → Reads b start (concat others) more → length given ≡ length more → (given ≡ more) × (a ≡ record b { begun = a.begun })
 pieces_left a b start pieces others given more v s h k le =
     let begins : Begins a.version start (concat pieces) more b.rest = rw (v, s) k.begins in
     let same = same_given a.version start (concat pieces) given more a.rest b.rest h.begins begins le in
     let len : length a.rest ≡ length b.rest = ap length same.1 in
     let all : length (concat pieces) ≡ length (concat others) = ap length s in
-    (same.0, unread_is a.version b.version a.at b.at a.rest b.rest a.fed b.fed v (omega (arith, h.place_is, k.place_is, len, all)) same.1 (omega (arith, h.fed_is, k.fed_is, all)))
+    (same.0, unread_is a.version b.version a.at b.at a.rest b.rest a.fed b.fed a.begun v (omega (arith, h.place_is, k.place_is, len, all)) same.1 (omega (arith, h.fed_is, k.fed_is, all)))
 
 -- ---- answers
 

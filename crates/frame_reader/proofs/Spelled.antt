@@ -1,61 +1,60 @@
 -- The frames that are read are those that are spelled.
-use Rattle.std.proofs.Common.{◌≡◌, ℕ, ◌+◌, List, [], ◌∷◌, length, take, drop, true, sym, ap, subst, ◌∙◌}
+use Rattle.std.proofs.Common.{◌≡◌, ℕ, ◌+◌, List, [], ◌∷◌, length, take, drop, sym, ap, subst, ◌∙◌}
 use Rattle.std.proofs.lemmas.List.{take-append-drop, length-take-le}
 use Rattle.std.proofs.Math.Seq.{drop-append_seam}
 use Rattle.wire_base.specs.declared.frame.Version.{Version}
 use Rattle.wire_base.specs.declared.reason.Reason.{Reason}
-use Rattle.frame_text.specs.Codec.{is_packed}
 use Rattle.frame_text.specs.Front.{Whole, Broken}
 use Rattle.frame_text.specs.Reading.{front}
 use Rattle.frame_text.specs.Spelling.{AreFrames, IsBrokenStream}
-use Rattle.frame_text.proofs.Laws.{front_within, front_spelled, spelled_front}
+use Rattle.frame_text.proofs.Laws.{front_within, every_front_spelled, every_spelled_front}
 use Rattle.frame_reader.specs.Reads.{Begins, BreaksAfter, HasNone}
 use Rattle.frame_reader.proofs.Streams.{Placed}
 
-pub frames_read : (v : Version) (at : ℕ) (stream : List ℕ) (given : List Placed) (rest : List ℕ) → is_packed v ≡ true → Begins v at stream given rest → HasNone v rest → AreFrames v at stream given rest
-frames_read v at stream [] rest packed h none = (h, λ f b more spelled e. none f (length b) (rw e (spelled_front v f b more packed spelled)))
-frames_read v at stream (x ∷ xs) rest packed h none =
+pub frames_read : (v : Version) (at : ℕ) (stream : List ℕ) (given : List Placed) (rest : List ℕ) → Begins v at stream given rest → HasNone v rest → AreFrames v at stream given rest
+frames_read v at stream [] rest h none = (h, λ f b more spelled e. none f (length b) (rw e (every_spelled_front v f b more spelled)))
+frames_read v at stream (x ∷ xs) rest h none =
     let within = front_within v stream x.1 h.1 h.2 in
     let size : h.1 ≡ length (take h.1 stream) = sym (length-take-le h.1 stream within.1) in
-    let then : AreFrames v (at + h.1) (drop h.1 stream) xs rest = frames_read v (at + h.1) (drop h.1 stream) xs rest packed h.3 none in
-    (h.0, take h.1 stream, drop h.1 stream, front_spelled v stream x.1 h.1 packed h.2, sym (take-append-drop h.1 stream), subst (λ n. AreFrames v (at + n) (drop h.1 stream) xs rest) size then)
+    let then : AreFrames v (at + h.1) (drop h.1 stream) xs rest = frames_read v (at + h.1) (drop h.1 stream) xs rest h.3 none in
+    (h.0, take h.1 stream, drop h.1 stream, every_front_spelled v stream x.1 h.1 h.2, sym (take-append-drop h.1 stream), subst (λ n. AreFrames v (at + n) (drop h.1 stream) xs rest) size then)
 
 pub record ReadAs (v : Version) (at : ℕ) (stream : List ℕ) (given : List Placed) (rest : List ℕ) : Type 0 where
   pub begins : Begins v at stream given rest
   pub none : HasNone v rest
 
-read_as : (v : Version) (at : ℕ) (stream : List ℕ) (given : List Placed) (rest : List ℕ) → is_packed v ≡ true → AreFrames v at stream given rest → ReadAs v at stream given rest
-read_as v at stream [] rest packed h = record {
+read_as : (v : Version) (at : ℕ) (stream : List ℕ) (given : List Placed) (rest : List ℕ) → AreFrames v at stream given rest → ReadAs v at stream given rest
+read_as v at stream [] rest h = record {
   begins = h.0;
-  none = λ f size e. h.1 f (take size rest) (drop size rest) (front_spelled v rest f size packed e) (sym (take-append-drop size rest));
+  none = λ f size e. h.1 f (take size rest) (drop size rest) (every_front_spelled v rest f size e) (sym (take-append-drop size rest));
 }
-read_as v at stream (x ∷ xs) rest packed h =
-    let r = read_as v (at + length h.1) h.2 xs rest packed h.5 in
-    let whole : front v stream ≡ Whole x.1 (length h.1) = rw h.4 (spelled_front v x.1 h.1 h.2 packed h.3) in
+read_as v at stream (x ∷ xs) rest h =
+    let r = read_as v (at + length h.1) h.2 xs rest h.5 in
+    let whole : front v stream ≡ Whole x.1 (length h.1) = rw h.4 (every_spelled_front v x.1 h.1 h.2 h.3) in
     let behind : h.2 ≡ drop (length h.1) stream = sym (ap (drop (length h.1)) h.4 ∙ drop-append_seam h.1 h.2) in
     record {
       begins = (h.0, length h.1, whole, subst (λ (s : List ℕ). Begins v (at + length h.1) s xs rest) behind r.begins);
       none = r.none;
     }
 
-pub frames_begin : (v : Version) (at : ℕ) (stream : List ℕ) (given : List Placed) (rest : List ℕ) → is_packed v ≡ true → AreFrames v at stream given rest → Begins v at stream given rest × HasNone v rest
-frames_begin v at stream given rest packed h = let r = read_as v at stream given rest packed h in (r.begins, r.none)
+pub frames_begin : (v : Version) (at : ℕ) (stream : List ℕ) (given : List Placed) (rest : List ℕ) → AreFrames v at stream given rest → Begins v at stream given rest × HasNone v rest
+frames_begin v at stream given rest h = let r = read_as v at stream given rest h in (r.begins, r.none)
 
 broken_none : (v : Version) (bytes : List ℕ) (offset : ℕ) (reason : Reason) → front v bytes ≡ Broken offset reason → HasNone v bytes
 broken_none v bytes offset reason e = λ f size w. cc
 
-pub refused_breaks : (v : Version) (start : ℕ) (stream : List ℕ) (given : List Placed) (place : ℕ) (reason : Reason) → is_packed v ≡ true → BreaksAfter v start stream given place reason → IsBrokenStream v start stream place reason
-refused_breaks v start stream given place reason packed h = record {
+pub refused_breaks : (v : Version) (start : ℕ) (stream : List ℕ) (given : List Placed) (place : ℕ) (reason : Reason) → BreaksAfter v start stream given place reason → IsBrokenStream v start stream place reason
+refused_breaks v start stream given place reason h = record {
   frames = given;
   rest = h.rest;
   offset = h.offset;
-  are_frames = frames_read v start stream given h.rest packed h.begins (broken_none v h.rest h.offset reason h.broken);
+  are_frames = frames_read v start stream given h.rest h.begins (broken_none v h.rest h.offset reason h.broken);
   broken = h.broken;
   place_is = h.place_is;
 }
 
-pub broken_refused : (v : Version) (start : ℕ) (stream : List ℕ) (place : ℕ) (reason : Reason) → is_packed v ≡ true → IsBrokenStream v start stream place reason → (given : List Placed) × BreaksAfter v start stream given place reason
-broken_refused v start stream place reason packed h =
-    (h.frames, record { rest = h.rest; offset = h.offset; begins = (read_as v start stream h.frames h.rest packed h.are_frames).begins; broken = h.broken; place_is = h.place_is })
+pub broken_refused : (v : Version) (start : ℕ) (stream : List ℕ) (place : ℕ) (reason : Reason) → IsBrokenStream v start stream place reason → (given : List Placed) × BreaksAfter v start stream given place reason
+broken_refused v start stream place reason h =
+    (h.frames, record { rest = h.rest; offset = h.offset; begins = (read_as v start stream h.frames h.rest h.are_frames).begins; broken = h.broken; place_is = h.place_is })
 
 pub ruleset spelled = (frames_read, frames_begin, refused_breaks, broken_refused)

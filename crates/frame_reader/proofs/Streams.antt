@@ -1,5 +1,5 @@
 -- Readings of streams, as pieces come and frames go.
-use Rattle.std.proofs.Common.{◌≡◌, ℕ, ◌+◌, ◌<◌, ◌⊎◌, inl, inr, List, [], ◌∷◌, ◌++◌, length, drop, refl, sym, ap, subst, ◌∙◌, arith, length-append, length-drop}
+use Rattle.std.proofs.Common.{◌≡◌, ℕ, ◌+◌, ◌<◌, ◌≤◌, ◌⊎◌, inl, inr, List, [], ◌∷◌, ◌++◌, length, drop, refl, sym, ap, subst, ◌∙◌, arith, length-append, length-drop}
 use Rattle.std.proofs.lemmas.List.{drop-append-le}
 use Rattle.wire_base.specs.declared.frame.Frame.{Frame}
 use Rattle.wire_base.specs.declared.frame.Version.{Version}
@@ -8,8 +8,8 @@ use Rattle.wire_base.specs.declared.reason.Reason.{Reason}
 use Rattle.frame_text.specs.Front.{Whole, Short, Broken}
 use Rattle.frame_text.specs.Reading.{front}
 use Rattle.frame_text.proofs.Laws.{front_within, front_stays, broken_stays}
-use Rattle.frame_reader.specs.Unread.{Unread, with_piece, without_front}
-use Rattle.frame_reader.specs.Answers.{Answers, RefusesAt}
+use Rattle.frame_reader.specs.Unread.{Unread, with_piece, without_front, with_refusal}
+use Rattle.frame_reader.specs.Answers.{Answers, HasFrame, RefusesAt}
 use Rattle.frame_reader.specs.Reads.{Begins, Reads, Follows, given_with}
 use Rattle.frame_reader.specs.declared.next.Next.{Next}
 use Rattle.frame_reader.specs.declared.next.Next.TheVariants as next
@@ -54,11 +54,14 @@ reads-frame reader start stream given size frame h e =
       fed_is = h.fed_is;
     }
 
+reads-refusal : (reader : Unread) (start : ℕ) (stream : List ℕ) (given : List Placed) → Reads reader start stream given → Reads (with_refusal reader) start stream given
+reads-refusal reader start stream given h = record { begins = h.begins; place_is = h.place_is; fed_is = h.fed_is }
+
 pub reads-answer : (answer : Next) (old new : Unread) (start : ℕ) (stream : List ℕ) (given : List Placed) → Answers answer old new → Reads old start stream given → Reads new start stream (given_with answer given)
 reads-answer (next.Frame place frame) old new start stream given a h =
     rw (a.3, a.2) (reads-frame old start stream given a.0 frame h a.1)
 reads-answer next.Short old new start stream given a h = rw a.1 h
-reads-answer (next.Refused place reason) old new start stream given a h = rw a.1 h
+reads-answer (next.Refused place reason) old new start stream given a h = rw a.1 (reads-refusal old start stream given h)
 reads-answer next.OutOfMemory old new start stream given a h = rw a h
 
 pub answer-follows : (answer : Next) (old new : Unread) (start : ℕ) (stream : List ℕ) (given : List Placed) → Answers answer old new → Reads old start stream given → Follows old.version start stream given answer
@@ -92,3 +95,6 @@ shorter-frame old new place frame a =
     rw a.3 (omega (arith, within.0, within.1, length-drop a.0 old.rest))
 
 pub ruleset answers = (refuses-again, shorter-frame)
+
+pub frame_within : (size : ℕ) (reader : Unread) → HasFrame size reader → size ≤ length reader.rest
+frame_within size reader h = (front_within reader.version reader.rest h.0 size h.1).1

@@ -4,10 +4,9 @@ ghost use Rattle.frame_reader.specs.Reads.{Begins, BreaksAfter, Follows, HasNone
 ghost use Rattle.frame_reader.specs.Unread.{Unread};
 ghost use Rattle.frame_reader.specs.declared.next.Next.{Next};
 ghost use Rattle.frame_reader.specs.declared.next.Next.TheVariants as next;
-ghost use Rattle.frame_text.specs.Codec.{is_packed};
 ghost use Rattle.frame_text.specs.Spelling.{AreFrames, IsBrokenStream};
 ghost use Rattle.std.specs.List.{concat};
-ghost use Rattle.std.specs.Prelude.{◌≡◌, ◌≢◌, ◌≤◌, ◌++◌, ℕ, List, length, true};
+ghost use Rattle.std.specs.Prelude.{◌≡◌, ◌≢◌, ◌≤◌, ◌++◌, ℕ, List, length};
 ghost use Rattle.wire_base.specs.declared.frame.Frame.{Frame};
 ghost use Rattle.wire_base.specs.declared.frame.Version.{Version};
 ghost use Rattle.wire_base.specs.declared.place.Place.{Place};
@@ -21,11 +20,11 @@ pub fn pieces_are_one_stream()
         a.version ≡ b.version → concat pieces ≡ concat others →
         Reads a start (concat pieces) given → Reads b start (concat others) more → length given ≤ length more →
         (later : List (ℕ × Frame)) × (more ≡ given ++ later) }
-    // If they gave as many, they are equal.
+    // If they gave as many, they are equal, but that one may have answered a refusal.
     ensures left { (a b : Unread) (start : ℕ) (pieces others : List (List ℕ)) (given more : List (ℕ × Frame)) →
         a.version ≡ b.version → concat pieces ≡ concat others →
         Reads a start (concat pieces) given → Reads b start (concat others) more → length given ≡ length more →
-        (given ≡ more) × (a ≡ b) }
+        (given ≡ more) × (a ≡ record b { begun = a.begun }) }
 {}
 
 /// What is answered is determined by the stream and by how much of it was given, and nothing that comes later changes it.
@@ -44,15 +43,15 @@ pub fn stream_has_one_answer()
         (later : List (ℕ × Frame)) × (given ≡ more ++ later) }
 {}
 
-/// In versions 2 and 3 what is read of a stream is what is spelled there.
+/// What is read of a stream is what is spelled there.
 #[tactic(auto, using(crate::proofs::Spelled::spelled))]
 pub fn frames_are_spelled()
-    ensures frames { (v : Version) (start : ℕ) (stream : List ℕ) (given : List (ℕ × Frame)) (rest : List ℕ) → is_packed v ≡ true →
+    ensures frames { (v : Version) (start : ℕ) (stream : List ℕ) (given : List (ℕ × Frame)) (rest : List ℕ) →
         Begins v start stream given rest → HasNone v rest → AreFrames v start stream given rest }
-    ensures begins { (v : Version) (start : ℕ) (stream : List ℕ) (given : List (ℕ × Frame)) (rest : List ℕ) → is_packed v ≡ true →
+    ensures begins { (v : Version) (start : ℕ) (stream : List ℕ) (given : List (ℕ × Frame)) (rest : List ℕ) →
         AreFrames v start stream given rest → Begins v start stream given rest × HasNone v rest }
-    ensures refused { (v : Version) (start : ℕ) (stream : List ℕ) (given : List (ℕ × Frame)) (place : ℕ) (reason : Reason) → is_packed v ≡ true →
+    ensures refused { (v : Version) (start : ℕ) (stream : List ℕ) (given : List (ℕ × Frame)) (place : ℕ) (reason : Reason) →
         BreaksAfter v start stream given place reason → IsBrokenStream v start stream place reason }
-    ensures broken { (v : Version) (start : ℕ) (stream : List ℕ) (place : ℕ) (reason : Reason) → is_packed v ≡ true →
+    ensures broken { (v : Version) (start : ℕ) (stream : List ℕ) (place : ℕ) (reason : Reason) →
         IsBrokenStream v start stream place reason → (given : List (ℕ × Frame)) × BreaksAfter v start stream given place reason }
 {}

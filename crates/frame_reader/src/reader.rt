@@ -1,12 +1,12 @@
 //! A reader of frames from a stream that comes in pieces.
 
-ghost use Rattle.frame_reader.specs.Answers.{Answers, RefusesAt};
+ghost use Rattle.frame_reader.specs.Answers.{Answers, HasFrame, RefusesAt};
 ghost use Rattle.frame_reader.specs.Reads.{Follows, Reads, given_with};
-ghost use Rattle.frame_reader.specs.Unread.{with_piece, without_front};
+ghost use Rattle.frame_reader.specs.Unread.{with_piece, with_refusal, without_front};
 ghost use Rattle.frame_text.specs.Codec.{Decodes};
 ghost use Rattle.frame_text.specs.Frames.{fits};
 ghost use Rattle.frame_text.specs.Reading.{front};
-ghost use Rattle.std.specs.Prelude.{◌≡◌, ◌+◌, ◌<◌, ◌≤◌, ◌^◌, ◌++◌, ◌⊎◌, ℕ, List, [], length, true, OnErr, OnOk};
+ghost use Rattle.std.specs.Prelude.{◌≡◌, ◌+◌, ◌<◌, ◌≤◌, ◌^◌, ◌++◌, ◌⊎◌, ℕ, List, [], length, true, false, OnErr, OnOk};
 ghost use Rattle.wire_base.specs.declared.frame.Frame.{Frame};
 ghost use Rattle.wire_base.specs.declared.place.Place.{Place};
 ghost use Rattle.wire_base.specs.declared.reason.Reason.{Reason};
@@ -28,6 +28,8 @@ pub struct FrameReader<C: FrameCodec> {
     /// The place of the byte after those.
     at: Place,
     fed: u64,
+    /// Bytes were given or skipped, or a refusal was answered.
+    begun: bool,
 }
 
 impl<C: FrameCodec> Model for FrameReader<C> {
@@ -37,7 +39,7 @@ impl<C: FrameCodec> Model for FrameReader<C> {
 
     ghost Value = { Unread };
 
-    ghost view = { λ r. record { version = C.version r.codec; at = r.at.0; rest = drop r.given r.bytes.items; fed = r.fed } };
+    ghost view = { λ r. record { version = C.version r.codec; at = r.at.0; rest = drop r.given r.bytes.items; fed = r.fed; begun = r.begun } };
 
     ghost invariant = { λ r. Holds r.bytes.items r.given r.at.0 r.fed };
 }
@@ -55,7 +57,7 @@ impl<C: FrameCodec> FrameReader<C> {
     /// A reader of a stream whose first byte stands at `start`. Takes no memory.
     pub fn new(alloc: Global, codec: C, start: Place) -> FrameReader<C>
         requires { start.0 ≤ 2 ^ 62 }
-        ensures empty { result ≡ record { version = C.version codec; at = start.0; rest = []; fed = 0 } }
+        ensures empty { result ≡ record { version = C.version codec; at = start.0; rest = []; fed = 0; begun = false } }
         ensures reads { Reads result start.0 [] [] }
     {
         FrameReader {
@@ -65,6 +67,7 @@ impl<C: FrameCodec> FrameReader<C> {
             given: 0,
             at: start,
             fed: 0,
+            begun: false,
         }
     }
 
@@ -104,7 +107,10 @@ impl<C: FrameCodec> FrameReader<C> {
                 Next::Frame(place, frame)
             }
             FrameStep::Short => Next::Short,
-            FrameStep::Refused(place, reason) => Next::Refused(place, reason),
+            FrameStep::Refused(place, reason) => {
+                self.begun = true;
+                Next::Refused(place, reason)
+            }
             FrameStep::OutOfMemory => Next::OutOfMemory,
         }
     }
@@ -118,13 +124,32 @@ impl<C: FrameCodec> FrameReader<C> {
         front(self.alloc, &self.codec, self.unread(), self.at)
     }
 
-    /// So many bytes at the front are given: the reader goes on behind them.
+    /// Gives up the whole frame of so many bytes at the front: the reader goes on behind it. What is refused stays refused,
+    /// since no frame stands there.
     pub fn skip(&mut self, size: usize)
+        requires { HasFrame size self.old }
+        ensures { self.new ≡ without_front size self.old }
+    {
+        self.give(size);
+    }
+
+    /// Skips a greeting of so many bytes, which is no frame, at the start of the stream.
+    pub fn skip_greeting(&mut self, size: usize)
+        requires within { size ≤ length self.old.rest }
+        requires first { self.old.begun ≡ false }
+        ensures { self.new ≡ without_front size self.old }
+    {
+        self.give(size);
+    }
+
+    /// So many bytes at the front are given: the reader goes on behind them.
+    fn give(&mut self, size: usize)
         requires { size ≤ length self.old.rest }
         ensures { self.new ≡ without_front size self.old }
     {
         self.given += size;
         self.at = Place(self.at.0 + size as u64);
+        self.begun = true;
         self.forget_given();
     }
 

@@ -85,3 +85,18 @@ fn a_broken_token_is_refused_for_good(rt: HostRuntime) -> Result<(), Fail> {
     }
     Ok(())
 }
+
+#[test]
+fn a_greeting_is_skipped(rt: HostRuntime) -> Result<(), Fail> {
+    let alloc = rt.alloc();
+    let mut reader = FrameReader::new(alloc, PackCodec::new(Version::Three), Place(7));
+    // Four bytes that are no frame, and a completion.
+    reader.feed(&[0x2f, 0xdf, 0x1d, 0x50])?;
+    assert!(rt; reader.left() >= 4 && reader.fed() < 100);
+    reader.skip_greeting(4);
+    assert_eq!(rt; (reader.place(), reader.left()), (Place(11), 0));
+    assert!(rt; reader.fed() < 100);
+    reader.feed(&STREAM[10..14])?;
+    assert!(rt; matches!(reader.next(), Next::Frame(Place(11), _)));
+    Ok(())
+}
