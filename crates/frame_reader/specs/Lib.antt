@@ -2,4 +2,3 @@ pub mod Unread
 pub mod Holds
 pub mod Answers
 pub mod Reads
-pub mod Any

@@ -1,15 +1,10 @@
 //! The frames of a stream that comes in pieces.
 #![tactic(auto)]
 
-mod any_codec;
 mod laws;
 mod next;
 mod reader;
 
-pub use any_codec::AnyCodec;
 pub use laws::{frames_are_spelled, pieces_are_one_stream, stream_has_one_answer};
 pub use next::Next;
 pub use reader::FrameReader;
-
-#[cfg(test)]
-mod tests;

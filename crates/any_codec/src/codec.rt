@@ -1,6 +1,6 @@
 //! The codec of a version that is known only as the program runs.
 
-ghost use Rattle.frame_reader.specs.Any.{version_of};
+ghost use Rattle.any_codec.specs.Codec.{version_of};
 ghost use Rattle.std.specs.Prelude.{◌≡◌};
 
 use frame_pack::PackCodec;

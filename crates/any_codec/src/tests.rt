@@ -1,5 +1,5 @@
 use super::*;
-use frame_pack::PackCodec;
+use frame_reader::{FrameReader, Next};
 use std::alloc::Global;
 use std::process::Abort;
 use std::test::Fail;
@@ -12,14 +12,14 @@ const STREAM: [u8; 24] = [
     0x94, 0x02, 0x01, 0x01, 0xc4, 0x04, 0x68, 0x65, 0x6c, 0x6c, // 21 to 30
 ];
 
-fn reader(alloc: Global) -> FrameReader<PackCodec> {
-    FrameReader::new(alloc, PackCodec::new(Version::Three), Place(7))
+fn reader(alloc: Global) -> FrameReader<AnyCodec> {
+    FrameReader::new(alloc, AnyCodec::new(Version::Three), Place(7))
 }
 
 /// The place, code and text of each frame, where the stream comes in pieces of so many bytes.
 fn frames(
     rt: &impl Abort,
-    reader: &mut FrameReader<PackCodec>,
+    reader: &mut FrameReader<AnyCodec>,
     alloc: Global,
     bytes: &[u8],
     size: usize,
@@ -89,7 +89,7 @@ fn a_broken_token_is_refused_for_good(rt: HostRuntime) -> Result<(), Fail> {
 #[test]
 fn a_greeting_is_skipped(rt: HostRuntime) -> Result<(), Fail> {
     let alloc = rt.alloc();
-    let mut reader = FrameReader::new(alloc, PackCodec::new(Version::Three), Place(7));
+    let mut reader = FrameReader::new(alloc, AnyCodec::new(Version::Three), Place(7));
     // Four bytes that are no frame, and a completion.
     reader.feed(&[0x2f, 0xdf, 0x1d, 0x50])?;
     assert!(rt; reader.left() >= 4 && reader.fed() < 100);
