@@ -1,7 +1,7 @@
 -- One more item makes of what an end keeps what it makes of it.
-use Rattle.std.specs.Prelude.{ℕ, ◌+◌, List, [], ◌∷◌, map, Bool, true, false, not, ◌&&◌, ◌||◌, if◌then◌else◌, Some, None}
+use Rattle.std.specs.Prelude.{ℕ, List, [], ◌∷◌, map, Bool, true, false, not, ◌&&◌, ◌||◌, if◌then◌else◌, Some, None}
 use Rattle.std.specs.List.{list_any}
-use Rattle.std.proofs.Common.{◌≡◌, inl, inr, refl, sym, ◌∙◌, ap, subst, arith}
+use Rattle.std.proofs.Common.{◌≡◌, inl, inr, refl, sym, ◌∙◌, ap, subst}
 use Rattle.std.proofs.lemmas.Bool.{cases_Bool, true≢false, or_left, or_right, false_from_ne_true}
 use Rattle.wire_base.specs.declared.frame.Version.{Version}
 use Rattle.wire_base.specs.declared.state.Cause.{Cause}
@@ -19,7 +19,7 @@ use Rattle.mux_items.proofs.Keys.{same_key_refl, same_key_true}
 use Rattle.mux_state.specs.State.{ChannelState, channel_at, state_of}
 use Rattle.mux_state.specs.Next.{offered_state, heard_state, closed_state, ended_state, settled, next_state, next_on}
 use Rattle.mux_state.specs.Tests.{tally_in}
-use Rattle.mux_state.specs.Book.{Standing, Kept, Gone, Entry, standing_of, entry_of, rejected_keys, book_of, moved, changed, changed_entry, change_at, insert_entry, entry_at, AreApart, next_entries, next_party, next_cause, next_rejected, next_book}
+use Rattle.mux_state.specs.Book.{Kept, Gone, standing_of, entry_of, rejected_keys, book_of, moved, changed, changed_entry, change_at, insert_entry, entry_at, AreApart, next_entries, next_party, next_cause, next_rejected, next_book}
 use Rattle.mux_state.proofs.Step.{accept_tells, write_tells, read_tells, complete_tells, terminate_tells, settled_closed}
 use Rattle.mux_state.proofs.Known.{known_offered, fresh_offer}
 use Rattle.mux_state.proofs.Ignored.{settled_sent}

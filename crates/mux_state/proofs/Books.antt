@@ -20,7 +20,7 @@ use Rattle.mux_items.proofs.Applied.{allowed_tail}
 use Rattle.mux_state.specs.State.{ChannelState, channel_at, kept_state}
 use Rattle.mux_state.specs.Tests.{on_kept, accept_test, write_test, read_test, writing_test, open_test, view_on, tally_in, frame_test}
 use Rattle.mux_state.specs.Book.{Standing, Kept, Gone, standing_of, entry_of, rejected_keys, book_of, find, found, kept_in, is_found, has_offer, is_kept_standing, kept_window, kept_count, windows_in, own_count, drawn_key, offer_test, has_room, frame_on_found, frame_in, tally_found, known_in}
-use Rattle.mux_state.proofs.Known.{same_key_turned, known_offered, fresh_offer}
+use Rattle.mux_state.proofs.Known.{known_offered, fresh_offer}
 use Rattle.mux_state.proofs.Law.{fresh_did, fresh_rejection}
 use Rattle.mux_state.proofs.Orders.{turned, any_in_order, count_in_order, sum_in_order}
 use Rattle.mux_state.proofs.Refusing.{accept_by_state, write_by_state, read_by_state, complete_by_state, terminate_by_state, frame_by_state, view_by_state}

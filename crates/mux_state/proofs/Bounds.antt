@@ -1,7 +1,7 @@
 -- What always holds of the channels that an end keeps.
-use Rattle.std.specs.Prelude.{ℕ, ◌+◌, ◌*◌, List, [], ◌∷◌, length, map, Bool, true, false, not, ◌&&◌, ◌||◌, nat_lt, nat_le, if◌then◌else◌, Option, Some, None}
-use Rattle.std.proofs.Common.{◌≡◌, ◌≤◌, inl, inr, refl, sym, ◌∙◌, ap, subst, arith}
-use Rattle.std.proofs.lemmas.Bool.{cases_Bool, true≢false, leb-false}
+use Rattle.std.specs.Prelude.{ℕ, ◌+◌, ◌*◌, List, [], ◌∷◌, length, Bool, true, false, not, nat_lt, nat_le, if◌then◌else◌, Some, None}
+use Rattle.std.proofs.Common.{◌≡◌, ◌≤◌, refl, sym, ◌∙◌, ap, subst, arith}
+use Rattle.std.proofs.lemmas.Bool.{leb-false}
 use Rattle.wire_base.specs.declared.frame.Version.{Version}
 use Rattle.wire_base.specs.declared.refusal.Refusal.{Refusal}
 use Rattle.wire_base.specs.declared.refusal.Refusal.TheVariants as refusal
@@ -17,7 +17,7 @@ use Rattle.mux_items.specs.Applying.{Allowed}
 use Rattle.mux_items.proofs.Applied.{allowed_tail}
 use Rattle.mux_state.specs.State.{ChannelState, channel_at}
 use Rattle.mux_state.specs.Tests.{stays_kept, tally_in}
-use Rattle.mux_state.specs.Book.{Standing, Kept, Gone, AreApart, book_of, found, has_offer, own_count, known_in, standing_of}
+use Rattle.mux_state.specs.Book.{Kept, Gone, AreApart, book_of, found, has_offer, own_count, known_in}
 use Rattle.mux_state.proofs.Step.{unless_none}
 use Rattle.mux_state.proofs.Law.{own_bound}
 use Rattle.mux_state.proofs.Orders.{known_apart}

@@ -49,7 +49,7 @@ spare_bound one false allowed sent left = omega arith
 spare_bound true true allowed sent left = omega arith
 spare_bound false true allowed sent left = omega arith
 
-sendable_bound : (s : ChannelState) → sendable s ≤ length s.pending
+pub sendable_bound : (s : ChannelState) → sendable s ≤ length s.pending
 sendable_bound s = spare_bound (is_one s.version) s.accepted s.granted s.emitted (length s.pending)
 
 sendable_less : (s : ChannelState) (n : ℕ) → n ≤ sendable s → sendable (piece_sent n s) ≡ sendable s - n

@@ -1,7 +1,7 @@
 -- Channels in their order: the same ones as in the order of their offers, each once.
-use Rattle.std.specs.Prelude.{ℕ, ◌+◌, List, [], ◌∷◌, length, map, filter, Bool, true, false, ◌||◌, if◌then◌else◌}
+use Rattle.std.specs.Prelude.{ℕ, ◌+◌, List, [], ◌∷◌, length, filter, Bool, true, false, ◌||◌}
 use Rattle.std.specs.List.{list_any, fold}
-use Rattle.std.proofs.Common.{◌≡◌, inl, inr, refl, sym, ◌∙◌, ap, subst, arith}
+use Rattle.std.proofs.Common.{◌≡◌, inl, inr, refl, sym, ◌∙◌, ap, arith}
 use Rattle.std.proofs.lemmas.Bool.{cases_Bool, true≢false, false≢true, or_parts, false_from_ne_true}
 use Rattle.wire_base.specs.declared.frame.Version.{Version}
 use Rattle.mux_items.specs.declared.channel.ChannelKey.{ChannelKey}

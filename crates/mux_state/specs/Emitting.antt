@@ -1,5 +1,5 @@
 -- One frame of what is due at a time.
-use Rattle.std.specs.Prelude.{ℕ, ◌+◌, min, List, [], ◌∷◌, take, drop, true, not, ◌&&◌, nat_lt, if◌then◌else◌}
+use Rattle.std.specs.Prelude.{ℕ, ◌+◌, min, List, [], ◌∷◌, length, take, drop, true, not, ◌&&◌, nat_lt, if◌then◌else◌}
 use Rattle.mux_items.specs.declared.channel.ChannelKey.{ChannelKey}
 use Rattle.mux_items.specs.Bodies.{Content, ContentWritingCompleted, ChannelTerminated, ChannelFrame, frame_on}
 use Rattle.mux_items.specs.Limits.{piece_size}
@@ -41,3 +41,7 @@ sent_bytes (kind.Content size) s = take size s.pending
 sent_bytes kind.Completed s = []
 sent_bytes kind.Terminated s = []
 sent_bytes kind.Nothing s = []
+
+-- a number that each frame lessens: of the pending bytes, and of the completion and the termination that aren't sent
+abbrev pub left_to_send : ChannelState → ℕ
+left_to_send s = length s.pending + (if s.completion_sent then 0 else 1) + (if s.termination_sent then 0 else 1)

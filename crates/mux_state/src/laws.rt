@@ -1,6 +1,6 @@
 //! The laws of a channel's states.
 
-ghost use Rattle.std.specs.Prelude.{◌≡◌, ◌≤◌, ◌*◌, [], ◌∷◌, ◌++◌, ℕ, List, Some, not, true, false};
+ghost use Rattle.std.specs.Prelude.{◌≡◌, ◌≢◌, ◌≤◌, ◌<◌, ◌*◌, [], ◌∷◌, ◌++◌, ℕ, List, Some, not, true, false};
 ghost use Rattle.wire_base.specs.declared.frame.Version.{Version};
 ghost use Rattle.mux_items.specs.declared.channel.ChannelKey.{ChannelKey};
 ghost use Rattle.mux_items.specs.Bodies.{FrameBody};
@@ -14,9 +14,11 @@ ghost use Rattle.mux_items.specs.Applying.{Allowed, lacks_room, frame_event};
 ghost use Rattle.mux_items.specs.Views.{view_of, tally_of, known_keys};
 ghost use Rattle.mux_state.specs.State.{ChannelState, blank, channel_at, state_of, kept_state};
 ghost use Rattle.mux_state.specs.Next.{frames_due, next_on, settled};
-ghost use Rattle.mux_state.specs.Emitting.{due_of, sent_frames, sent_state};
+ghost use Rattle.mux_state.specs.Emitting.{due_of, left_to_send, sent_frames, sent_state};
 ghost use Rattle.mux_state.specs.Book.{AreApart, Kept, book_of, due_of_book, drawn_key, empty_book, event_in, found, frame_in, has_offer, has_room, is_ready_book, kept_in, known_in, own_count, next_book, offer_test, tally_found, windows_in};
 ghost use Rattle.mux_state.specs.Tests.{accept_test, due_in, event_on, frame_test, on_kept, open_test, read_test, stays_kept, tally_on, view_on, write_test, writing_test};
+
+use crate::due::Due;
 
 /// One more item makes of a channel what it makes of its state before it.
 pub fn a_channel_steps()
@@ -30,10 +32,13 @@ pub fn a_channel_sends()
     ensures { (v : Version) (c : ChannelKey) (item : Item) (items : List Item) → names c item ≡ true → Allowed v (item ∷ items) → is_rejected c items ≡ false → due v item items ≡ due_in c (is_running items) item (channel_at v c items) }
 {}
 
-/// One frame after the other sends what is due.
+/// One frame after the other sends what is due, until nothing is.
 pub fn frames_go_one_by_one()
     ensures settles { (s : ChannelState) → settled (sent_state (due_of s) s) ≡ settled s }
     ensures frames { (c : ChannelKey) (s : ChannelState) → frames_due c s ≡ sent_frames c (due_of s) s ++ frames_due c (sent_state (due_of s) s) }
+    ensures rests { (s : ChannelState) → due_of s ≡ Due.Nothing → settled s ≡ s }
+    ensures silent { (c : ChannelKey) (s : ChannelState) → due_of s ≡ Due.Nothing → frames_due c s ≡ [] }
+    ensures falls { (s : ChannelState) → due_of s ≢ Due.Nothing → left_to_send (sent_state (due_of s) s) < left_to_send s }
 {}
 
 /// What the rules say of a channel they say of its state.
