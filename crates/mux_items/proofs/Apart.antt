@@ -230,9 +230,6 @@ pub is_dropped-restricted : (v : Version) (c : ChannelKey) (items : List Item) �
 is_dropped-restricted v c items = dropped_from (has_terminated c (restricted c items)) (has_terminated c items) (is_terminated_by_peer c (restricted c items)) (is_terminated_by_peer c items) (is_accepted v c (restricted c items)) (is_accepted v c items)
     (has_terminated-restricted c items) (is_terminated_by_peer-restricted c items) (is_accepted-restricted v c items)
 
-pub dropped_unnamed : (v : Version) (c : ChannelKey) (item : Item) (items : List Item) → names c item ≡ false → is_dropped v c (item ∷ items) ≡ is_dropped v c items
-dropped_unnamed v c = skipped c (is_dropped v c) (is_dropped-restricted v c)
-
 pub handed_unnamed : (v : Version) (c : ChannelKey) (item : Item) (items : List Item) → names c item ≡ false → handed v c (item ∷ items) ≡ handed v c items
 handed_unnamed v c (DidRead key max) items e = rw e refl
 handed_unnamed v c item items e = refl

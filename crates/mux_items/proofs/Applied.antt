@@ -23,11 +23,6 @@ allowed_tail v (Got place key body) items ok = ok.2
 allowed_tail v (Rejected place key body) items ok = ok.2
 allowed_tail v (End cause) items ok = ok.1
 
-pub allowed_drop : (v : Version) (items : List Item) → Allowed v items → (n : ℕ) → Allowed v (drop n items)
-allowed_drop v items ok zero = ok
-allowed_drop v [] ok (suc n) = tt
-allowed_drop v (item ∷ items) ok (suc n) = allowed_drop v items (allowed_tail v item items ok) n
-
 allowed_frame : (v : Version) (place : ℕ) (c : ChannelKey) (body : FrameBody) (items : List Item) → Allowed v items → IsTaken v c body items → Allowed v (item_of_frame v place c body items ∷ items)
 allowed_frame v place c body items ok taken = elim (cases_Bool (lacks_room v body items)) [
   | inl e ↦ rw e (taken, e, ok)
@@ -50,7 +45,3 @@ got_frame v place c body items = elim (cases_Bool (lacks_room v body items)) [
 -- a frame that no rule refuses is applied
 pub got_apply : (v : Version) (place : ℕ) (c : ChannelKey) (body : FrameBody) (items : List Item) → frame_refusal v c body items ≡ None → got (apply_frame v place c body items) ≡ got items ++ frame_on c body ∷ []
 got_apply v place c body items e = rw e (got_frame v place c body items)
-
--- a refused frame is not
-pub got_refused : (v : Version) (place : ℕ) (c : ChannelKey) (body : FrameBody) (items : List Item) (reason : Reason) → frame_refusal v c body items ≡ Some reason → got (apply_frame v place c body items) ≡ got items
-got_refused v place c body items reason e = rw e refl

@@ -11,8 +11,8 @@ use Rattle.mux_items.specs.Bodies.{FrameBody, ChannelFrame, flip}
 use Rattle.mux_items.specs.Items.{Item, Hello, End, is_running}
 use Rattle.mux_items.specs.Due.{sent, got}
 use Rattle.mux_items.specs.Calls.{called}
-use Rattle.mux_items.specs.Refusals.{is_ready, frame_refusal}
-use Rattle.mux_items.specs.Applying.{IsGreeting, item_of_frame, after_frame, apply_frame}
+use Rattle.mux_items.specs.Refusals.{frame_refusal}
+use Rattle.mux_items.specs.Applying.{IsGreeting, IsTaken, item_of_frame, after_frame, apply_frame}
 use Rattle.mux_items.proofs.Applied.{got_apply, allowed_apply}
 use Rattle.mux_items.proofs.Flips.{flips_flip}
 use Rattle.mux_run.specs.Between.{ahead, Between}
@@ -63,14 +63,13 @@ between_end v cause x y b runs = between_grown v x y (End cause ∷ x) b (end_gr
 pub applied_is : (v : Version) (place : ℕ) (c : ChannelKey) (body : FrameBody) (items : List Item) → frame_refusal v c body items ≡ None → apply_frame v place c body items ≡ item_of_frame v place c body items ∷ items
 applied_is v place c body items e = ap (after_frame v place c body items) e
 
--- the next frame, where x doesn't refuse it
-pub between_next : (v : Version) (place : ℕ) (x y : List Item) (f : ChannelFrame) (rest : List ChannelFrame) → Between v x y → is_running x ≡ true → is_ready v x ≡ true → frame_refusal v (flip f).key f.body x ≡ None → ahead v x y ≡ f ∷ rest
+-- the next frame, where x takes it
+pub between_next : (v : Version) (place : ℕ) (x y : List Item) (f : ChannelFrame) (rest : List ChannelFrame) → Between v x y → IsTaken v (flip f).key f.body x → ahead v x y ≡ f ∷ rest
     → Between v (apply_frame v place (flip f).key f.body x) y × (ahead v (apply_frame v place (flip f).key f.body x) y ≡ rest)
-between_next v place x y f rest b runs ready ok e =
-    let after = apply_frame v place (flip f).key f.body x in
-    between_after v x y after (f ∷ []) rest b e (record {
+between_next v place x y f rest b taken e =
+    between_after v x y (apply_frame v place (flip f).key f.body x) (f ∷ []) rest b e (record {
       newer = item_of_frame v place (flip f).key f.body x ∷ [];
-      is = applied_is v place (flip f).key f.body x ok;
-      applied = got_apply v place (flip f).key f.body x ok;
-      allowed = λ a. allowed_apply v place (flip f).key f.body x a ready runs;
+      is = applied_is v place (flip f).key f.body x taken.unrefused;
+      applied = got_apply v place (flip f).key f.body x taken.unrefused;
+      allowed = λ a. allowed_apply v place (flip f).key f.body x a taken.ready taken.running;
     })

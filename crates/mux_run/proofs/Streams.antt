@@ -1,8 +1,7 @@
 -- The bytes that a side was given, by its peer's handshake and whole frames.
 use Rattle.std.specs.Prelude.{suc}
-use Rattle.std.proofs.Common.{◌≡◌, ℕ, ◌+◌, ◌-◌, ◌≤◌, List, [], ◌∷◌, ◌++◌, length, take, drop, refl, sym, ◌∙◌, ap, subst, arith, length-append, length-drop, append_assoc, add-one}
+use Rattle.std.proofs.Common.{◌≡◌, ℕ, ◌+◌, ◌-◌, ◌≤◌, List, [], ◌∷◌, ◌++◌, length, take, drop, refl, sym, ◌∙◌, ap, subst, arith, length-append, length-drop, add-one}
 use Rattle.std.proofs.lemmas.List.{append-nil, drop_at, drop-drop, take-append-le}
-use Rattle.wire_base.specs.declared.frame.Version.{Version}
 use Rattle.frame_text.specs.Hello.{hello}
 use Rattle.mux_items.specs.Bodies.{ChannelFrame, frame_text, frame_texts}
 use Rattle.mux_items.specs.Due.{sent}
@@ -31,11 +30,6 @@ stream_cut w given k y h within =
     let bytes : drop (length first) rest ≡ drop (place_after w k y) (take given (out w.version w.peer y.items)) =
     ap (drop (length first)) (sym (drop_at front rest (length front) refl)) ∙ (drop-drop (length first) (length front) (front ++ rest) ∙ ap (drop (place_after w k y)) (sym (stream_front w given y h))) in
     subst (λ bs. IsCut w.version bs (next_frames w given k y) (drop (length (whole_frames w.version n frames)) frames)) bytes (cut_after w.version n k frames within)
-
--- the first of whole frames stands first, and what follows is cut after the others
-pub cut_more : (v : Version) (bytes : List ℕ) (f : ChannelFrame) (fs others : List ChannelFrame) → IsCut v bytes (f ∷ fs) others → (rest : List ℕ) × (bytes ≡ frame_text v f ++ rest) × IsCut v rest fs others
-cut_more v bytes f fs others c =
-    (frame_texts v fs ++ c.part, c.is ∙ append_assoc (frame_text v f) (frame_texts v fs) c.part, record { part = c.part; is = refl; begins = c.begins })
 
 -- one more frame is applied
 
