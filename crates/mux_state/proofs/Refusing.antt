@@ -1,14 +1,17 @@
 -- What the rules say of a channel, by its state.
-use Rattle.std.specs.Prelude.{ℕ, ◌-◌, List, length, Bool, true, false, ◌||◌, if◌then◌else◌, Some, None}
+use Rattle.std.specs.Prelude.{ℕ, ◌+◌, ◌-◌, nat_lt, Option, List, length, Bool, true, false, ◌||◌, if◌then◌else◌, Some, None}
 use Rattle.std.proofs.Common.{◌≡◌, inl, inr, refl, sym, ◌∙◌, ap}
 use Rattle.std.proofs.lemmas.Bool.{cases_Bool, true≢false}
 use Rattle.wire_base.specs.declared.frame.Version.{Version}
+use Rattle.wire_base.specs.declared.refusal.Refusal.{Refusal}
+use Rattle.wire_base.specs.declared.refusal.Refusal.TheVariants as refusal
 use Rattle.mux_items.specs.declared.channel.ChannelKey.{ChannelKey}
 use Rattle.mux_items.specs.Bodies.{FrameBody, Offer, OfferAccepted, Content, ContentWritingCompleted, ChannelTerminated, ContentProcessed}
 use Rattle.mux_items.specs.Items.{Item, ended}
-use Rattle.mux_items.specs.Lists.{written, emitted, has_terminated, is_terminated_by_peer, is_cut, is_finished, is_offered, is_rejected, termination_emitted}
+use Rattle.mux_items.specs.Lists.{written, emitted, has_terminated, is_terminated_by_peer, is_cut, is_finished, is_offered, is_rejected, is_accepted, termination_emitted}
 use Rattle.mux_items.specs.Kept.{is_known, is_kept, own_windows}
-use Rattle.mux_items.specs.Refusals.{unless_ended, accept_refusal, write_refusal, read_refusal, complete_refusal, terminate_refusal, later_refusal, heeded_refusal}
+use Rattle.mux_items.specs.Limits.{most_windows}
+use Rattle.mux_items.specs.Refusals.{is_bad_window, or_else, unless_ended, accept_refusal, write_refusal, read_refusal, complete_refusal, terminate_refusal, later_refusal, heeded_refusal}
 use Rattle.mux_items.specs.Views.{view_of, tally_of}
 use Rattle.mux_items.specs.Applying.{frame_event}
 use Rattle.std.proofs.lemmas.List.{length-drop}
@@ -50,9 +53,16 @@ read_by_state v c items = elim (cases_Bool (is_kept v c items)) [
   | inr e ↦ rw e refl
 ]
 
+accept_in_turn : (sent accepted : Bool) (rest : Option Refusal) → (if sent then Some refusal.NotOpen else if accepted then Some refusal.AlreadyAccepted else rest)
+    ≡ or_else (or_else (if sent then Some refusal.NotOpen else None) (if accepted then Some refusal.AlreadyAccepted else None)) rest
+accept_in_turn true accepted rest = refl
+accept_in_turn false true rest = refl
+accept_in_turn false false rest = refl
+
 pub accept_by_state : (v : Version) (c : ChannelKey) (size : ℕ) (items : List Item) → accept_refusal v c size items ≡ unless_ended (ended items) (on_kept (kept_state v c items) (accept_test (own_windows v items) size))
 accept_by_state v c size items = elim (cases_Bool (is_kept v c items)) [
-  | inl e ↦ rw (e, peer_sent v c items) refl
+  | inl e ↦ rw (e, peer_sent v c items)
+      (ap (λ r. unless_ended (ended items) (if c.own then Some refusal.WrongSide else r)) (accept_in_turn (termination_emitted v c items) (is_accepted v c items) (if is_bad_window size then Some refusal.BadWindow else if nat_lt most_windows (own_windows v items + size) then Some refusal.WindowsSpent else None)))
   | inr e ↦ rw e refl
 ]
 

@@ -24,7 +24,7 @@ use Rattle.mux_items.specs.Due.{written_window}
 use Rattle.mux_state.specs.Next.{offered_state, heard_state, ended_state, next_state}
 use Rattle.mux_state.specs.Tests.{due_in, stays_kept, frame_test, event_on, tally_in}
 
--- a channel that is kept stands in its state; of one that isn't kept any more there is what came of it
+-- a channel that is kept, in its state, or one that isn't kept any more, with what came of it
 pub data Standing : Type 0 where
   Kept : (now : ChannelState) → Standing
   Gone : (tally : Tally) → Standing
@@ -34,8 +34,7 @@ pub record Entry : Type 0 where
   pub key : ChannelKey
   pub standing : Standing
 
--- the party that the peer's handshake made of the end, why it ended, its channels in their order, and the channels whose
--- offers were rejected, oldest first
+-- an end: the party that the peer's handshake made of it, why it ended, its channels in their order, and those that it rejected, oldest first
 pub record Book : Type 0 where
   pub version : Version
   pub party : Option Party
@@ -43,12 +42,14 @@ pub record Book : Type 0 where
   pub entries : List Entry
   pub rejected : List ChannelKey
 
+-- where a known channel stands
 abbrev pub standing_of : Version → ChannelKey → List Item → Standing
 standing_of v c items = if is_kept v c items then Kept (channel_at v c items) else Gone (tally_in (channel_at v c items))
 
 abbrev pub entry_of : Version → List Item → ChannelKey → Entry
 entry_of v items c = record { key = c; standing = standing_of v c items }
 
+-- the channels whose offers were rejected, oldest first
 abbrev pub rejected_keys : List Item → List ChannelKey
 rejected_keys [] = []
 rejected_keys (Rejected place key body ∷ items) = rejected_keys items ++ key ∷ []
@@ -62,10 +63,12 @@ book_of v items = record { version = v; party = greeting items; cause = ended it
 abbrev pub empty_book : Version → Book
 empty_book v = record { version = v; party = None; cause = None; entries = []; rejected = [] }
 
+-- where a channel stands, if it is among these
 abbrev pub find : ChannelKey → List Entry → Option Standing
 find c [] = None
 find c (entry ∷ entries) = if same_key c entry.key then Some entry.standing else find c entries
 
+-- the state of a channel that is kept
 abbrev pub kept_in : Option Standing → Option ChannelState
 kept_in None = None
 kept_in (Some (Kept now)) = Some now
@@ -86,17 +89,20 @@ abbrev pub is_kept_standing : Standing → Bool
 is_kept_standing (Kept now) = true
 is_kept_standing (Gone tally) = false
 
+-- the own window of a channel, where it is kept
 abbrev pub kept_window : Standing → ℕ
 kept_window (Kept now) = now.window
 kept_window (Gone tally) = 0
 
--- how many channels are kept, their own windows together, and how many offers were made here
+-- how many channels are kept
 abbrev pub kept_count : Book → ℕ
 kept_count book = length (filter (λ entry. is_kept_standing entry.standing) book.entries)
 
+-- the own windows of kept channels together
 abbrev pub windows_in : Book → ℕ
 windows_in book = sum_by (λ entry. kept_window entry.standing) book.entries
 
+-- how many offers were made here
 abbrev pub own_count : Book → ℕ
 own_count book = length (filter (λ entry. entry.key.own) book.entries)
 
@@ -108,6 +114,7 @@ drawn_key book = record { id = own_id (party_or_neither book.party) (own_count b
 abbrev pub is_ready_book : Book → Bool
 is_ready_book book = is_three book.version || is_greeted book.party
 
+-- why an offer with this name and window is refused
 abbrev pub offer_test : List ℕ → ℕ → Book → Option Refusal
 offer_test name size book = unless_ended book.cause
     (if not (is_ready_book book) then Some refusal.NotReady
@@ -118,32 +125,38 @@ offer_test name size book = unless_ended book.cause
     else if nat_le most_offers (own_count book) then Some refusal.TooManyOffers
     else None)
 
+-- whether an offer of the peer isn't rejected
 abbrev pub has_room : FrameBody → Book → Bool
 has_room body book = not (is_offer body && nat_le most_channels (kept_count book))
 
--- frames on a channel that isn't kept any more, or was rejected, are ignored
+-- why a frame is refused on a channel that was offered: only where it is kept
 abbrev pub frame_on_found : FrameBody → Option Standing → Option Reason
 frame_on_found body None = None
 frame_on_found body (Some (Kept now)) = frame_test body now
 frame_on_found body (Some (Gone tally)) = None
 
+-- why a frame is refused
 abbrev pub frame_in : ChannelKey → FrameBody → Book → Option Reason
 frame_in c (Offer name size) book = if c.own then Some reason.WrongSide else if has_offer c book then Some reason.IdInUse else None
 frame_in c body book = if not (has_offer c book) then Some reason.NoChannel else frame_on_found body (found c book)
 
+-- the event of a frame that isn't an offer: it is ignored where the channel isn't kept
 abbrev pub event_found : ChannelKey → FrameBody → Option Standing → MuxEvent
 event_found c body (Some (Kept now)) = event_on c body now
 event_found c body standing = event.Ignored c
 
+-- the event of a frame
 abbrev pub event_in : ChannelKey → FrameBody → Book → MuxEvent
 event_in c (Offer name size) book = event.Offered c
 event_in c body book = event_found c body (found c book)
 
+-- what came of a channel, if it is known
 abbrev pub tally_found : Option Standing → Option Tally
 tally_found None = None
 tally_found (Some (Kept now)) = Some (tally_in now)
 tally_found (Some (Gone tally)) = Some tally
 
+-- the channels that were offered and not rejected, in their order
 abbrev pub known_in : Book → List ChannelKey
 known_in book = map (λ entry. entry.key) book.entries
 
@@ -152,10 +165,11 @@ abbrev pub AreApart : List ChannelKey → Type 0
 AreApart [] = Unit {0}
 AreApart (c ∷ cs) = (list_any (same_key c) cs ≡ false) × AreApart cs
 
--- a channel after a change: kept, or gone with what came of it
+-- a kept channel after a change: it is gone once it doesn't stay kept
 abbrev pub moved : ChannelState → Standing
 moved now = if stays_kept now then Kept now else Gone (tally_in now)
 
+-- a change of a channel that may be gone, which then stays as it was
 abbrev pub changed : (ChannelState → ChannelState) → Standing → Standing
 changed change (Kept now) = moved (change now)
 changed change (Gone tally) = Gone tally
@@ -163,7 +177,7 @@ changed change (Gone tally) = Gone tally
 abbrev pub changed_entry : (ChannelState → ChannelState) → Entry → Entry
 changed_entry change entry = record { key = entry.key; standing = changed change entry.standing }
 
--- a change of one channel
+-- a change of one channel among others
 abbrev pub change_at : ChannelKey → (ChannelState → ChannelState) → List Entry → List Entry
 change_at c change [] = []
 change_at c change (entry ∷ entries) = if same_key c entry.key then changed_entry change entry ∷ entries else entry ∷ change_at c change entries
@@ -176,7 +190,7 @@ insert_entry entry (other ∷ entries) = if precedes other.key entry.key then ot
 abbrev pub entry_at : ChannelKey → ChannelState → Entry
 entry_at c now = record { key = c; standing = Kept now }
 
--- an offer adds a channel, the end changes all, and every other item the one that it names
+-- the channels after an item: an offer adds one, the end changes all, and every other item the one that it names
 abbrev pub next_entries : Version → Item → List Entry → List Entry
 next_entries v (Hello party) entries = entries
 next_entries v (DidOffer key name size) entries = insert_entry (entry_at key (offered_state v size)) entries
@@ -202,6 +216,7 @@ abbrev pub next_rejected : Item → List ChannelKey → List ChannelKey
 next_rejected (Rejected place key body) old = old ++ key ∷ []
 next_rejected item old = old
 
+-- an end after an item
 abbrev pub next_book : Item → Book → Book
 next_book item book = record {
   version = book.version;
@@ -211,11 +226,12 @@ next_book item book = record {
   rejected = next_rejected item book.rejected;
 }
 
--- the frames that an item makes due
+-- the frames that an item makes due on a channel that may be kept
 abbrev pub due_found : ChannelKey → (running : Bool) → Item → Option Standing → List ChannelFrame
 due_found c running item (Some (Kept now)) = due_in c running item now
 due_found c running item standing = []
 
+-- the frames that an item makes due
 abbrev pub due_of_book : Item → Book → List ChannelFrame
 due_of_book (Hello party) book = []
 due_of_book (End cause) book = []

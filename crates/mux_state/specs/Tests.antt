@@ -26,40 +26,48 @@ use Rattle.mux_state.specs.Next.{absorbed, frames_due, read_count}
 abbrev pub waits_here : ChannelState → Bool
 waits_here s = not s.own && not s.accepted
 
--- a channel is open until either side terminates it
+-- why terminating is refused: a channel is open until either side terminates it
 abbrev pub open_test : ChannelState → Option Refusal
 open_test s = if s.termination_sent || s.peer_terminated then Some refusal.NotOpen else None
 
+-- why completing is refused, and writing first of all
 abbrev pub writing_test : ChannelState → Option Refusal
 writing_test s = or_else (open_test s)
     (if waits_here s then Some refusal.NotAccepted
     else if s.completing then Some refusal.WritingDone
     else None)
 
+-- why writing these bytes is refused
 abbrev pub write_test : List ℕ → ChannelState → Option Refusal
 write_test bytes s = or_else (writing_test s) (if nat_lt most_bytes (s.written + length bytes) then Some refusal.BytesSpent else None)
 
+-- why reading is refused
 abbrev pub read_test : ChannelState → Option Refusal
 read_test s = if waits_here s then Some refusal.NotAccepted else None
 
--- `windows` is the sum of the own windows of kept channels
+-- why accepting is refused, but for the side and the windows
+abbrev pub accepting_test : ChannelState → Option Refusal
+accepting_test s = or_else (open_test s) (if s.accepted then Some refusal.AlreadyAccepted else None)
+
+-- why accepting with this window is refused, where the own windows of kept channels are so many bytes together
 abbrev pub accept_test : (windows size : ℕ) → ChannelState → Option Refusal
 accept_test windows size s =
     if s.own then Some refusal.WrongSide
-    else if s.termination_sent || s.peer_terminated then Some refusal.NotOpen
-    else if s.accepted then Some refusal.AlreadyAccepted
-    else if is_bad_window size then Some refusal.BadWindow
+    else or_else (accepting_test s)
+    (if is_bad_window size then Some refusal.BadWindow
     else if nat_lt most_windows (windows + size) then Some refusal.WindowsSpent
-    else None
+    else None)
 
--- the test of a channel that is kept
+-- why a call on a channel is refused, by the test of one that is kept
 abbrev pub on_kept : Option ChannelState → (ChannelState → Option Refusal) → Option Refusal
 on_kept None test = Some refusal.NoChannel
 on_kept (Some s) test = test s
 
+-- content or a completion of the peer comes before acceptance; in version 1 it may, where the peer made the offer
 abbrev pub comes_early : ChannelState → Bool
 comes_early s = (s.own || not (is_one s.version)) && not s.accepted
 
+-- why a frame that is heeded is refused
 abbrev pub heeded_test : FrameBody → ChannelState → Option Reason
 heeded_test (Offer name size) s = None
 heeded_test (OfferAccepted size) s = if not s.own then Some reason.WrongSide else if s.accepted then Some reason.AlreadyAccepted else None
@@ -72,15 +80,17 @@ heeded_test ContentWritingCompleted s = if comes_early s then Some reason.NotAcc
 heeded_test ChannelTerminated s = None
 heeded_test (ContentProcessed count) s = if nat_lt s.emitted (s.acknowledged + count) then Some reason.OverAcknowledged else None
 
--- a frame that isn't an offer
+-- why a frame that isn't an offer is refused: after the own termination none is
 abbrev pub frame_test : FrameBody → ChannelState → Option Reason
 frame_test body s = if s.termination_sent then None else heeded_test body s
 
+-- the event of a frame that isn't refused
 abbrev pub event_on : ChannelKey → FrameBody → ChannelState → MuxEvent
 event_on c ChannelTerminated s = if s.peer_terminated then event.Ignored c else event.Closed c
 event_on c (Offer name size) s = event.Offered c
 event_on c body s = if s.termination_sent then event.Ignored c else heeded_event c body
 
+-- where the channel stands
 abbrev pub phase_in : ChannelState → Phase
 phase_in s =
     if s.termination_sent then (if s.peer_terminated then phase.Closed else phase.Closing)
@@ -88,9 +98,11 @@ phase_in s =
     else if s.own then phase.Waiting
     else phase.Heard
 
+-- a channel is kept until it is closed and has no unread bytes
 abbrev pub stays_kept : ChannelState → Bool
 stays_kept s = not (s.termination_sent && s.peer_terminated) || has_bytes s.unread
 
+-- a kept channel as it is shown
 abbrev pub view_in : ChannelState → ChannelView
 view_in s = record {
   phase = phase_in s;
@@ -101,14 +113,16 @@ view_in s = record {
   completed = s.completed;
 }
 
+-- what came of a channel so far
 abbrev pub tally_in : ChannelState → Tally
 tally_in s = record { phase = phase_in s; written = s.written; emitted = s.emitted; taken = s.taken; handed = s.handed }
 
--- what is shown of a kept channel, and told of a known one
+-- what is shown of a channel that may be kept
 abbrev pub view_on : Option ChannelState → Option ChannelView
 view_on None = None
 view_on (Some s) = Some (view_in s)
 
+-- what came of a channel that may be known
 abbrev pub tally_on : Option ChannelState → Option Tally
 tally_on None = None
 tally_on (Some s) = Some (tally_in s)
@@ -135,7 +149,3 @@ due_in c running (DidRead key max) s = acknowledgement_in c running max s
 due_in c running (Rejected place key body) s = frame_on c ChannelTerminated ∷ []
 due_in c running (End cause) s = []
 due_in c running item s = first_frame s.version c item ++ frames_due c (absorbed item s)
-
--- the channel's own part of accepting
-abbrev pub accepting_test : ChannelState → Option Refusal
-accepting_test s = or_else (open_test s) (if s.accepted then Some refusal.AlreadyAccepted else None)
