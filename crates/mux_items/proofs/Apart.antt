@@ -189,7 +189,8 @@ pub termination_emitted-restricted : (v : Version) (c : ChannelKey) (items : Lis
 termination_emitted-restricted v c items = or_from_four (has_terminated c (restricted c items)) (has_terminated c items) (is_terminated_by_peer c (restricted c items)) (is_terminated_by_peer c items) (is_rejected c (restricted c items)) (is_rejected c items) (is_finished v c (restricted c items)) (is_finished v c items)
     (has_terminated-restricted c items) (is_terminated_by_peer-restricted c items) (is_rejected-restricted c items) (is_finished-restricted v c items)
 
-unheeded : {A : Type 0} (same terminated : Bool) (x y : A) → same ≡ false → (if same && not terminated then x else y) ≡ y
+-- an item on another channel isn't heeded
+pub unheeded : {A : Type 0} (same terminated : Bool) (x y : A) → same ≡ false → (if same && not terminated then x else y) ≡ y
 unheeded true terminated x y e = absurd (true≢false e)
 unheeded false terminated x y e = refl
 

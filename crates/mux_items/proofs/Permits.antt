@@ -19,7 +19,7 @@ unless_none : (cause : Option Cause) (refused : Option Refusal) → unless_ended
 unless_none (Some cause) refused e = absurd (cc)
 unless_none None refused e = e
 
-or_else_none : (first second : Option Refusal) → or_else first second ≡ None → (first ≡ None) × (second ≡ None)
+pub or_else_none : (first second : Option Refusal) → or_else first second ≡ None → (first ≡ None) × (second ≡ None)
 or_else_none (Some r) second e = absurd (cc)
 or_else_none None second e = (refl, e)
 

@@ -21,7 +21,7 @@ use Rattle.mux_state.specs.Next.{offered_state, heard_state, closed_state, ended
 use Rattle.mux_state.specs.Tests.{tally_in}
 use Rattle.mux_state.specs.Book.{Kept, Gone, standing_of, entry_of, rejected_keys, book_of, moved, changed, changed_entry, change_at, insert_entry, entry_at, AreApart, next_entries, next_party, next_cause, next_rejected, next_book}
 use Rattle.mux_state.proofs.Step.{accept_tells, write_tells, read_tells, complete_tells, terminate_tells, settled_closed}
-use Rattle.mux_state.proofs.Known.{known_offered, fresh_offer}
+use Rattle.mux_state.proofs.Known.{clash, known_offered, fresh_offer}
 use Rattle.mux_state.proofs.Ignored.{settled_sent}
 use Rattle.mux_state.proofs.Law.{fresh_did, fresh_rejection, channel_step, channel_offered, channel_heard}
 use Rattle.mux_state.proofs.Refusing.{kept_by_state}
@@ -52,9 +52,6 @@ closed_gone s e f g =
 
 sent_gone : (s next : ChannelState) → s.termination_sent ≡ true → s.peer_terminated ≡ true → s.unread ≡ [] → moved (settled (if s.termination_sent then s else next)) ≡ Gone (tally_in s)
 sent_gone s next e f g = ap moved (settled_sent s next e) ∙ moved_gone s e f g
-
-clash : {A : Type 0} (b : Bool) → b ≡ true → b ≡ false → A
-clash b e f = absurd (true≢false (sym e ∙ f))
 
 by_key : (f : ChannelKey → Bool) (c key : ChannelKey) (b : Bool) → same_key key c ≡ true → f key ≡ b → f c ≡ b
 by_key f c key b same e = subst (λ k. f k ≡ b) (same_key_true key c same) e

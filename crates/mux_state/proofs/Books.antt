@@ -20,7 +20,7 @@ use Rattle.mux_items.proofs.Applied.{allowed_tail}
 use Rattle.mux_state.specs.State.{ChannelState, channel_at, kept_state}
 use Rattle.mux_state.specs.Tests.{on_kept, accept_test, write_test, read_test, writing_test, open_test, view_on, tally_in, frame_test}
 use Rattle.mux_state.specs.Book.{Standing, Kept, Gone, standing_of, entry_of, rejected_keys, book_of, find, found, kept_in, is_found, has_offer, is_kept_standing, kept_window, kept_count, windows_in, own_count, drawn_key, offer_test, has_room, frame_on_found, frame_in, tally_found, known_in}
-use Rattle.mux_state.proofs.Known.{known_offered, fresh_offer}
+use Rattle.mux_state.proofs.Known.{clash, known_offered, fresh_offer}
 use Rattle.mux_state.proofs.Law.{fresh_did, fresh_rejection}
 use Rattle.mux_state.proofs.Orders.{turned, any_in_order, count_in_order, sum_in_order}
 use Rattle.mux_state.proofs.Refusing.{accept_by_state, write_by_state, read_by_state, complete_by_state, terminate_by_state, frame_by_state, view_by_state}
@@ -155,16 +155,14 @@ tally_if false left now = refl
 pub tally_by_book : (v : Version) (c : ChannelKey) (items : List Item) → tally_of v c items ≡ tally_found (found c (book_of v items))
 tally_by_book v c items = tally_if (is_known c items) (not (is_closed v c items) || has_bytes (unread v c items)) (channel_at v c items) ∙ ap tally_found (sym (found_is v c items))
 
--- a known channel wasn't rejected
-clash : {A : Type 0} (b : Bool) → b ≡ true → b ≡ false → A
-clash b e f = absurd (true≢false (sym e ∙ f))
-
+-- a channel that wasn't offered wasn't rejected
 pub unoffered_unrejected : (c : ChannelKey) (items : List Item) → is_offered c items ≡ false → is_rejected c items ≡ false
 unoffered_unrejected c items e = (or_parts (is_known c items) (is_rejected c items) (offered_is c items ∙ e)).1
 
 older_known : (c key : ChannelKey) (items : List Item) → same_key c key ≡ false → (same_key c key || is_known c items) ≡ true → is_known c items ≡ true
 older_known c key items differ e = sym (ap (λ b. b || is_known c items) differ) ∙ e
 
+-- nor was a known one
 pub known_unrejected : (v : Version) (c : ChannelKey) (items : List Item) → Allowed v items → is_known c items ≡ true → is_rejected c items ≡ false
 known_unrejected v c [] ok e = refl
 known_unrejected v c (DidOffer key name size ∷ items) ok e = elim (cases_Bool (same_key c key)) [

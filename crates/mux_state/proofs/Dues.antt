@@ -21,15 +21,11 @@ use Rattle.mux_state.specs.Next.{frames_due, framed_state}
 use Rattle.mux_state.specs.Tests.{due_in, tally_in}
 use Rattle.mux_state.specs.Book.{Kept, Gone, standing_of, book_of, found, due_found, due_of_book, event_found, event_in}
 use Rattle.mux_state.proofs.Step.{accept_tells, write_tells, read_tells, complete_tells, terminate_tells, later_tells}
-use Rattle.mux_state.proofs.Known.{fresh_offer, blank_before}
+use Rattle.mux_state.proofs.Known.{clash, fresh_offer, blank_before}
 use Rattle.mux_state.proofs.Law.{fresh_did, fresh_rejection}
 use Rattle.mux_state.proofs.Sending.{channel_sends, frames_sent, nothing_ends, closed_frames}
 use Rattle.mux_state.proofs.Refusing.{event_by_state}
 use Rattle.mux_state.proofs.Books.{known_unrejected, unoffered_unrejected, rejected_sent, or_last, gone_is, found_is, offered_is}
-
--- of a rejected channel nothing is written or completed
-clash : {A : Type 0} (b : Bool) → b ≡ true → b ≡ false → A
-clash b e f = absurd (true≢false (sym e ∙ f))
 
 kept_known : (v : Version) (c : ChannelKey) (items : List Item) → is_kept v c items ≡ true → is_known c items ≡ true
 kept_known v c items e = (and_parts (is_known c items) _ e).0
@@ -41,6 +37,7 @@ no_length : (bytes : List ℕ) → length bytes ≡ 0 → bytes ≡ []
 no_length [] e = refl
 no_length (byte ∷ bytes) e = absurd (omega (arith, e))
 
+-- nothing is written or completed, as on a rejected channel
 pub record IsUntouched (c : ChannelKey) (items : List Item) : Type 0 where
   pub unwritten : written c items ≡ []
   pub uncompleted : has_completed c items ≡ false

@@ -35,7 +35,7 @@ pieces_more (x ∷ xs) a =
     ap (λ ps. take piece_size (x ∷ xs) ∷ ps)
     (pieces_enough (length xs) (length (drop piece_size (x ∷ xs))) (drop piece_size (x ∷ xs)) (simp length-drop (omega arith)) (omega arith))
 
-content_more : (c : ChannelKey) (bytes : List ℕ) → 0 < length bytes → content_frames c bytes ≡ frame_on c (Content (take piece_size bytes)) ∷ content_frames c (drop piece_size bytes)
+pub content_more : (c : ChannelKey) (bytes : List ℕ) → 0 < length bytes → content_frames c bytes ≡ frame_on c (Content (take piece_size bytes)) ∷ content_frames c (drop piece_size bytes)
 content_more c bytes a = ap (λ ps. map (λ piece. frame_on c (Content piece)) ps) (pieces_more bytes a)
 
 -- after a piece so much less may go

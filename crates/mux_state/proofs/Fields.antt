@@ -1,7 +1,6 @@
 -- A channel's state by its parts, and items that change none or few of them.
 use Rattle.std.specs.Prelude.{ℕ, ◌+◌, min, List, [], ◌∷◌, length, drop, Bool, true, false, not, ◌&&◌, ◌||◌, if◌then◌else◌}
 use Rattle.std.proofs.Common.{◌≡◌, inl, inr, refl, sym, ◌∙◌, ap, arith}
-use Rattle.std.proofs.lemmas.Bool.{true≢false}
 use Rattle.std.proofs.lemmas.List.{drop-drop, drop_all}
 use Rattle.wire_base.specs.declared.frame.Version.{Version}
 use Rattle.wire_base.specs.declared.state.Cause.{Cause}
@@ -12,7 +11,7 @@ use Rattle.mux_items.specs.Items.{Item, Hello, DidRead, DidTerminate, Got, End, 
 use Rattle.mux_items.specs.Lists.{written, is_cut, before_cut, emitted_in, emitted, has_completed, has_terminated, is_terminated_by_peer, is_rejected, completion_in, completion_emitted, termination_emitted, taken, is_completed, acknowledged, granted, is_dropped, unread_count, handed, unread}
 use Rattle.mux_items.proofs.Keys.{same_key_refl}
 use Rattle.mux_items.proofs.Emission.{written_unnamed, cut_unnamed, emitted_unnamed, before_cut_cases}
-use Rattle.mux_items.proofs.Apart.{skipped, window_unnamed, has_completed-restricted, is_terminated_by_peer-restricted, completion_emitted-restricted, termination_unnamed, taken_unnamed, accepted_unnamed, handed_unnamed, unread_unnamed}
+use Rattle.mux_items.proofs.Apart.{unheeded, skipped, window_unnamed, has_completed-restricted, is_terminated_by_peer-restricted, completion_emitted-restricted, termination_unnamed, taken_unnamed, accepted_unnamed, handed_unnamed, unread_unnamed}
 use Rattle.mux_items.proofs.Taking.{finished_in}
 use Rattle.mux_items.proofs.Window.{length-unread}
 use Rattle.mux_state.specs.State.{ChannelState, pending_bytes, channel_at}
@@ -43,10 +42,6 @@ same_state a b v o w x n p e h s g k t u m d q r = λ i. record {
 
 pub pending_from : (b b' : Bool) (n n' : ℕ) (xs xs' : List ℕ) → b ≡ b' → n ≡ n' → xs ≡ xs' → pending_bytes b n xs ≡ pending_bytes b' n' xs'
 pending_from b b' n n' xs xs' e f g = λ i. pending_bytes (e i) (f i) (g i)
-
-unheeded : {A : Type 0} (same terminated : Bool) (x y : A) → same ≡ false → (if same && not terminated then x else y) ≡ y
-unheeded true terminated x y e = absurd (true≢false e)
-unheeded false terminated x y e = refl
 
 granted_unnamed : (v : Version) (c : ChannelKey) (item : Item) (items : List Item) → names c item ≡ false → granted v c (item ∷ items) ≡ granted v c items
 granted_unnamed v c (Got place key (Offer name size)) items e = unheeded (same_key key c) (termination_emitted v c items) (granted v c items + window_of size) (granted v c items) e

@@ -73,7 +73,7 @@ fresh_offer v c name size items e =
 offered_by_key : (c key : ChannelKey) (items : List Item) → same_key key c ≡ true → is_offered key items ≡ true → is_offered c items ≡ true
 offered_by_key c key items same e = subst (λ k. is_offered k items ≡ true) (same_key_true key c same) e
 
-clash : {A : Type 0} (b : Bool) → b ≡ true → b ≡ false → A
+pub clash : {A : Type 0} (b : Bool) → b ≡ true → b ≡ false → A
 clash b e f = absurd (true≢false (sym e ∙ f))
 
 blank_step : (v : Version) (c : ChannelKey) (item : Item) (items : List Item) → names c item ≡ true → Allowed v (item ∷ items) → is_offered c (item ∷ items) ≡ false → channel_at v c items ≡ blank v c.own → channel_at v c (item ∷ items) ≡ blank v c.own

@@ -13,10 +13,10 @@ use Rattle.mux_items.specs.Bodies.{FrameBody, OfferAccepted, Content, ContentWri
 use Rattle.mux_items.specs.Items.{Item, DidAccept, DidWrite, DidComplete, DidTerminate, Got, End, is_running}
 use Rattle.mux_items.specs.Lists.{written, is_offered, is_cut, before_cut, emitted_in, emitted, has_terminated, is_terminated_by_peer, is_rejected, completion_in, is_finished, termination_emitted, taken, is_accepted, handed}
 use Rattle.mux_items.specs.Kept.{is_kept}
-use Rattle.mux_items.specs.Refusals.{unless_ended, or_else, open_refusal, writing_refusal, write_refusal, read_refusal, complete_refusal, terminate_refusal, accept_refusal, later_refusal}
+use Rattle.mux_items.specs.Refusals.{unless_ended, open_refusal, writing_refusal, write_refusal, read_refusal, complete_refusal, terminate_refusal, accept_refusal, later_refusal}
 use Rattle.mux_items.specs.Applying.{Allowed}
 use Rattle.mux_items.proofs.Keys.{same_key_refl}
-use Rattle.mux_items.proofs.Permits.{if_none, accept_permits}
+use Rattle.mux_items.proofs.Permits.{or_else_none, if_none, accept_permits}
 use Rattle.mux_items.proofs.Emission.{emitted_bound}
 use Rattle.mux_items.proofs.Taking.{handed_bound}
 use Rattle.mux_state.specs.State.{ChannelState, pending_bytes, channel_at}
@@ -28,10 +28,6 @@ use Rattle.mux_state.proofs.Open.{unsent, channel_open}
 pub unless_none : (cause : Option Cause) (refused : Option Refusal) → unless_ended cause refused ≡ None → (is_none cause ≡ true) × (refused ≡ None)
 unless_none (Some cause) refused e = absurd (cc)
 unless_none None refused e = (refl, e)
-
-pub or_else_none : (first second : Option Refusal) → or_else first second ≡ None → (first ≡ None) × (second ≡ None)
-or_else_none (Some r) second e = absurd (cc)
-or_else_none None second e = (refl, e)
 
 pub open_tells : (v : Version) (c : ChannelKey) (items : List Item) → open_refusal v c items ≡ None → (is_kept v c items ≡ true) × (termination_emitted v c items ≡ false)
 open_tells v c items e =
