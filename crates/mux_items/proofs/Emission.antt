@@ -160,7 +160,7 @@ contents_of_other_frames c d bytes e = pieces-other c d (pieces bytes) e
 take-span : (m n : ℕ) (bytes : List ℕ) → m ≤ n → take m bytes ++ span m n bytes ≡ take n bytes
 take-span m n bytes le = ap (λ bs. bs ++ drop m (take n bytes)) (sym (take-take m n bytes le)) ∙ take-append-drop m (take n bytes)
 
-span_none : (n m : ℕ) (bytes : List ℕ) → m ≡ n → span n m bytes ≡ []
+pub span_none : (n m : ℕ) (bytes : List ℕ) → m ≡ n → span n m bytes ≡ []
 span_none n m bytes e = ap (λ k. drop n (take k bytes)) e ∙ drop_all n (take n bytes) (omega (arith, length-take n bytes))
 
 front_more : (c : ChannelKey) (m : ℕ) (item : Item) (items : List Item) → m ≤ length (written c items) → take m (written c items) ≡ take m (written c (item ∷ items))

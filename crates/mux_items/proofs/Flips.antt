@@ -1,5 +1,5 @@
 -- A channel and its frames as the other end names them.
-use Rattle.std.specs.Prelude.{ℕ, List, [], ◌∷◌, ◌++◌, map, Bool, true, false, not, if◌then◌else◌}
+use Rattle.std.specs.Prelude.{List, [], ◌∷◌, ◌++◌, map, Bool, true, false, not, if◌then◌else◌}
 use Rattle.std.proofs.Common.{◌≡◌, refl, ◌∙◌, ap, ap₂}
 use Rattle.mux_items.specs.declared.channel.ChannelKey.{ChannelKey}
 use Rattle.mux_items.specs.Bodies.{ChannelFrame, other_key, flip}

@@ -6,5 +6,15 @@ pub mod Applied
 pub mod Taking
 pub mod Window
 pub mod Newer
+pub mod Open
 pub mod Apart
+pub mod Offered
+pub mod Totals
+pub mod Exact
+pub mod Staging
+pub mod Emits
+pub mod Stages
+pub mod Heard
+pub mod Talks
+pub mod Order
 mod Worked

@@ -63,7 +63,7 @@ completed_in_more c item items e = e
 -- nothing is written after the own completion
 pub written_once_completed : (v : Version) (c : ChannelKey) (item : Item) (items : List Item) → Allowed v (item ∷ items) → has_completed c items ≡ true → written c (item ∷ items) ≡ written c items
 written_once_completed v c (DidWrite key bytes) items ok done = elim (cases_Bool (same_key key c)) [
-  | inl same ↦ absurd (true≢false (sym done ∙ subst (λ k. has_completed k items ≡ false) (same_key_true key c same) (write_permits v key bytes items ok.0)))
+  | inl same ↦ absurd (true≢false (sym done ∙ subst (λ k. has_completed k items ≡ false) (same_key_true key c same) (write_permits v key bytes items ok.0).uncompleted))
   | inr differ ↦ rw differ refl
 ]
 written_once_completed v c item items ok done = refl

@@ -36,7 +36,7 @@ by_peer_emitted v c items e =
     (or_left (has_terminated c items || is_terminated_by_peer c items) (is_rejected c items)
     (or_right (has_terminated c items) (is_terminated_by_peer c items) e))
 
-unheeded : (same terminated accepted : Bool) → terminated ≡ true → (if same && not terminated then true else accepted) ≡ accepted
+pub unheeded : (same terminated accepted : Bool) → terminated ≡ true → (if same && not terminated then true else accepted) ≡ accepted
 unheeded true true accepted e = refl
 unheeded false true accepted e = refl
 unheeded same false accepted e = absurd (false≢true e)
@@ -44,7 +44,7 @@ unheeded same false accepted e = absurd (false≢true e)
 -- a channel isn't accepted after the own termination
 pub accepted_quiet : (v : Version) (c : ChannelKey) (item : Item) (items : List Item) → termination_emitted v c items ≡ true → Allowed v (item ∷ items) → is_accepted v c (item ∷ items) ≡ is_accepted v c items
 accepted_quiet v c (DidAccept key size) items e ok = elim (cases_Bool (same_key key c)) [
-  | inl same ↦ absurd (true≢false (sym e ∙ subst (λ k. termination_emitted v k items ≡ false) (same_key_true key c same) (accept_permits v key size items ok.0)))
+  | inl same ↦ absurd (true≢false (sym e ∙ subst (λ k. termination_emitted v k items ≡ false) (same_key_true key c same) (accept_permits v key size items ok.0).heard))
   | inr differ ↦ rw differ refl
 ]
 accepted_quiet v c (Got place key (OfferAccepted size)) items e ok = unheeded (same_key key c) (termination_emitted v c items) (is_accepted v c items) e
@@ -93,7 +93,7 @@ taken_content v place c bytes items two ok heard grown =
       ap (λ bs. unread_count (is_dropped v c (item ∷ items)) (length bs) (handed v c items)) grown,
       ap (λ n. unread_count (is_dropped v c (item ∷ items)) n (handed v c items)) (length-append (taken v c items) bytes),
       unread_count_more (is_dropped v c items) (is_dropped v c (item ∷ items)) (length (taken v c items)) (handed v c items) (length bytes) (dropped_more v c item items ok) (handed_bound v c items),
-      content_permits v c bytes items two ok.0.unrefused heard,
+      (content_permits v c bytes items two ok.0.unrefused heard).1,
     )
 
 taken_by : (same terminated : Bool) (xs ys : List ℕ) → ((same ≡ true) × (terminated ≡ false) × ((if same && not terminated then xs ++ ys else xs) ≡ xs ++ ys)) ⊎ ((if same && not terminated then xs ++ ys else xs) ≡ xs)

@@ -1,5 +1,5 @@
 -- The calls of an end, why each is refused, and the item of one that isn't.
-use Rattle.std.specs.Prelude.{ℕ, List, ◌∷◌, Option, Some, None}
+use Rattle.std.specs.Prelude.{List, ◌∷◌, Option, Some, None}
 use Rattle.wire_base.specs.declared.frame.Version.{Version}
 use Rattle.wire_base.specs.declared.refusal.Refusal.{Refusal}
 use Rattle.mux_items.specs.declared.call.Call.{Call}

@@ -9,3 +9,5 @@ pub mod Refusals
 pub mod Calls
 pub mod Applying
 pub mod Views
+pub mod Sums
+pub mod Order
