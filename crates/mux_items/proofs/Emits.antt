@@ -15,7 +15,7 @@ use Rattle.mux_items.proofs.Permits.{write_permits, complete_permits}
 use Rattle.mux_items.proofs.Applied.{allowed_tail}
 use Rattle.mux_items.proofs.Taking.{completion_in_more, rejected_more, written_once_completed}
 use Rattle.mux_items.proofs.Open.{uncut, accepted_step, accepted_heard, rejected_terminated}
-use Rattle.mux_items.proofs.Offered.{offered_else, rejected_first, never_accepted, never_written, never_completed}
+use Rattle.mux_items.proofs.Offered.{offered_else, rejected_first, accepted_offered, never_written, never_completed}
 use Rattle.mux_items.proofs.Staging.{is_open}
 
 pub none_emitted : (v : Version) (c : ChannelKey) (item : Item) (items : List Item) → emitted v c (item ∷ items) ≡ emitted v c items → newly_emitted v c item items ≡ []
@@ -136,7 +136,7 @@ open_accepted v c items e own = ap (λ b. if b then is_offered c items else is_a
 
 pub accepted_is_open : (v : Version) (c : ChannelKey) (items : List Item) → Allowed v items → is_accepted v c items ≡ true → is_open v c items ≡ true
 accepted_is_open v c items ok e = elim (cases_Bool c.own) [
-  | inl own ↦ open_offered v c items (true_from_ne_false (is_offered c items) (λ o. true≢false (sym e ∙ never_accepted v c items ok o))) own
+  | inl own ↦ open_offered v c items (accepted_offered v c items ok e) own
   | inr peer ↦ open_accepted v c items e peer
 ]
 

@@ -14,7 +14,7 @@ use Rattle.mux_items.proofs.Applied.{allowed_tail}
 use Rattle.mux_items.proofs.Staging.{Stage, Fresh, Open, Done, Over, Wrong, next_stage, stage_after, heard_with, heard_after, is_fresh, is_talking, is_past}
 use Rattle.mux_items.proofs.Permits.{accept_permits}
 use Rattle.mux_items.proofs.Newer.{heard_before, accepted_more}
-use Rattle.mux_items.proofs.Offered.{never, peer_key, offered_else}
+use Rattle.mux_items.proofs.Offered.{accepted_offered, never, peer_key, offered_else}
 
 pub heard-flip : (c : ChannelKey) (s : Stage) (fs : List ChannelFrame) → stage_after (other_key c) s (map flip fs) ≡ heard_after c s fs
 heard-flip c s [] = refl
@@ -124,6 +124,13 @@ accepted_came v c (Got place key (OfferAccepted size) ∷ items) ok own e = elim
   | inr differ ↦ unfresh_more c (Got place key (OfferAccepted size)) items (accepted_came v c items ok.2 own (offered_else (heeds v key c items) (is_accepted v c items) (ap (λ b. b && not (termination_emitted v c items)) differ) e))
 ]
 accepted_came v c (item ∷ items) ok own e = unfresh_more c item items (accepted_came v c items (allowed_tail v item items ok) own e)
+
+-- so on an accepted channel a frame came
+pub accepted_unfresh : (v : Version) (c : ChannelKey) (items : List Item) → Allowed v items → is_accepted v c items ≡ true → is_fresh (heard_at c items) ≡ false
+accepted_unfresh v c items ok e = elim (cases_Bool c.own) [
+  | inl own ↦ accepted_came v c items ok own e
+  | inr peer ↦ offered_came v c items ok peer (accepted_offered v c items ok e)
+]
 
 -- where the peer's acceptance came, an open own channel is accepted
 talked_before : (s : Stage) (body : FrameBody) → is_talking (next_stage false s body) ≡ true → ((size : Option ℕ) → body ≡ OfferAccepted size → ⊥) → is_talking s ≡ true

@@ -17,4 +17,5 @@ pub mod Stages
 pub mod Heard
 pub mod Talks
 pub mod Order
+pub mod Live
 mod Worked

@@ -2,7 +2,7 @@
 use Rattle.std.specs.Prelude.{ℕ, ◌+◌, ◌≤◌, List, [], ◌∷◌, Bool, true, false, not, ◌||◌, if◌then◌else◌, Option, Some, None}
 use Rattle.std.specs.List.{list_any}
 use Rattle.std.proofs.Common.{◌≡◌, inl, inr, refl, sym, ◌∙◌, ap, subst, arith}
-use Rattle.std.proofs.lemmas.Bool.{cases_Bool, true≢false, false≢true, and_parts, or_cases, false_from_ne_true}
+use Rattle.std.proofs.lemmas.Bool.{cases_Bool, true≢false, false≢true, and_parts, or_cases, false_from_ne_true, true_from_ne_false}
 use Rattle.wire_base.specs.declared.frame.Version.{Version}
 use Rattle.wire_base.specs.declared.reason.Reason.TheVariants as reason
 use Rattle.wire_base.specs.declared.state.Cause.{Cause}
@@ -172,6 +172,9 @@ finished_same v c item items e = before_same c (finished_in v c) item items e
 
 pub never_accepted : (v : Version) (c : ChannelKey) (items : List Item) → Allowed v items → is_offered c items ≡ false → is_accepted v c items ≡ false
 never_accepted v c items ok e = never_by c (is_accepted v c) (is_accepted-restricted v c) (λ party items. refl) (λ cause items. refl) v items ok e
+
+pub accepted_offered : (v : Version) (c : ChannelKey) (items : List Item) → Allowed v items → is_accepted v c items ≡ true → is_offered c items ≡ true
+accepted_offered v c items ok e = true_from_ne_false (is_offered c items) (λ o. true≢false (sym e ∙ never_accepted v c items ok o))
 
 pub never_written : (v : Version) (c : ChannelKey) (items : List Item) → Allowed v items → is_offered c items ≡ false → written c items ≡ []
 never_written v c items ok e = never_by c (written c) (written-restricted c) (λ party items. refl) (λ cause items. refl) v items ok e
