@@ -6,7 +6,7 @@ use Rattle.wire_base.specs.declared.frame.Version.{Version}
 use Rattle.wire_base.specs.declared.frame.Version.TheVariants as version
 use Rattle.wire_base.specs.declared.frame.Frame.{Frame}
 use Rattle.frame_text.specs.Codec.{is_packed, elements}
-use Rattle.frame_text.specs.Heads.{bin_head}
+use Rattle.wire_base.specs.Shortest.{bin_head}
 use Rattle.frame_text.specs.Frames.{text, packed_text, fits, payload_text}
 use Rattle.frame_pack.specs.Parts.{front_text}
 use Rattle.frame_pack.proofs.Extending.{extends-same, extends-after}

@@ -3,7 +3,6 @@
 
 mod codec;
 mod fits;
-mod heads;
 mod payload;
 mod reading;
 mod tokens;

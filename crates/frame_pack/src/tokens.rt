@@ -160,19 +160,24 @@ pub fn bin_of(size: u32, reason: Reason, bytes: &[u8]) -> Result<(u32, &[u8]), F
     }
 }
 
+fn code_said(number: i128) -> Option<Code>
+    ensures { result ≡ code_in number }
+{
+    if 0 <= number && number < 256 {
+        Code::from_number(number as u8)
+    } else {
+        None
+    }
+}
+
 #[tactic(auto, unfolding(frame_text::specs::Reading::token_at))]
 pub fn code(bytes: &[u8]) -> Result<(Code, &[u8]), Fault>
     ensures { Says (λ x. (x.0, x.1.now)) result (token_at a_number code_in BadCode bytes.now) }
 {
     let (number, rest) = number(Reason::BadCode, bytes)?;
-    match number {
-        0 => Ok((Code::Offer, rest)),
-        1 => Ok((Code::OfferAccepted, rest)),
-        2 => Ok((Code::Content, rest)),
-        3 => Ok((Code::ContentWritingCompleted, rest)),
-        4 => Ok((Code::ChannelTerminated, rest)),
-        5 => Ok((Code::ContentProcessed, rest)),
-        _ => Err(breaks(bytes, Reason::BadCode)),
+    match code_said(number) {
+        Some(code) => Ok((code, rest)),
+        None => Err(breaks(bytes, Reason::BadCode)),
     }
 }
 

@@ -4,26 +4,14 @@ ghost use Rattle.frame_pack.specs.Extends.{Extends};
 ghost use Rattle.frame_pack.specs.Parts.{front_text};
 ghost use Rattle.frame_text.specs.Codec.{is_packed};
 ghost use Rattle.frame_text.specs.Frames.{code_number, fits, origin_text, payload_text, str_text, text};
-ghost use Rattle.frame_text.specs.Heads.{array_head, bin_head, unsigned_text};
 ghost use Rattle.std.specs.Prelude.{◌≡◌, ◌<◌, ◌≤◌, ◌^◌, ◌++◌, length, true, OnOk, OnErr};
 
 use crate::fits::payload_len;
-use crate::heads::{push_array_head, push_bin_head, push_str_head, push_unsigned};
 use crate::reading::least_elements;
-use wire_base::{Code, Frame, Origin, OutOfMemory, Payload, Text, Version};
-
-fn number_of(code: Code) -> u64
-    ensures { result ≡ code_number code }
-{
-    match code {
-        Code::Offer => 0,
-        Code::OfferAccepted => 1,
-        Code::Content => 2,
-        Code::ContentWritingCompleted => 3,
-        Code::ChannelTerminated => 4,
-        Code::ContentProcessed => 5,
-    }
-}
+use wire_base::{
+    Frame, Origin, OutOfMemory, Payload, Text, Version, push_array_head, push_bin_head,
+    push_str_head, push_unsigned,
+};
 
 #[tactic(auto, using(crate::proofs::Extending::extending))]
 fn push_origin(origin: Origin, out: &mut Vec<u8>) -> Result<(), OutOfMemory>
@@ -45,7 +33,7 @@ fn push_str(text: &Text, out: &mut Vec<u8>) -> Result<(), OutOfMemory>
     ensures err { OnErr result (Extends out.old.items out.new.items) }
 {
     let bytes = text.as_str().as_bytes();
-    push_str_head(bytes.len(), out)?;
+    push_str_head(out, bytes.len() as u32)?;
     out.extend_from_slice(bytes)?;
     Ok(())
 }
@@ -58,18 +46,18 @@ fn push_payload(payload: &Payload, out: &mut Vec<u8>) -> Result<(), OutOfMemory>
 {
     match payload {
         Payload::Offer(name, None) => {
-            push_array_head(1, out)?;
+            push_array_head(out, 1)?;
             push_str(name, out)
         }
         Payload::Offer(name, Some(window)) => {
-            push_array_head(2, out)?;
+            push_array_head(out, 2)?;
             push_str(name, out)?;
-            push_unsigned(*window, out)
+            push_unsigned(out, *window)
         }
-        Payload::Accepted(None) => push_array_head(0, out),
+        Payload::Accepted(None) => push_array_head(out, 0),
         Payload::Accepted(Some(window)) => {
-            push_array_head(1, out)?;
-            push_unsigned(*window, out)
+            push_array_head(out, 1)?;
+            push_unsigned(out, *window)
         }
         Payload::Content(bytes) => {
             out.extend_from_slice(bytes.as_bytes())?;
@@ -77,22 +65,21 @@ fn push_payload(payload: &Payload, out: &mut Vec<u8>) -> Result<(), OutOfMemory>
         }
         Payload::Nothing => Ok(()),
         Payload::Processed(count) => {
-            push_array_head(1, out)?;
-            push_unsigned(*count, out)
+            push_array_head(out, 1)?;
+            push_unsigned(out, *count)
         }
     }
 }
 
 /// All of a frame but its payload.
 #[tactic(auto, using(crate::proofs::Extending::extending))]
-fn push_front(elements: u8, frame: &Frame, out: &mut Vec<u8>) -> Result<(), OutOfMemory>
-    requires { elements < 16 }
+fn push_front(elements: u32, frame: &Frame, out: &mut Vec<u8>) -> Result<(), OutOfMemory>
     ensures ok { OnOk result (out.new.items ≡ out.old.items ++ front_text elements frame.now) }
     ensures err { OnErr result (Extends out.old.items out.new.items) }
 {
-    push_array_head(elements, out)?;
-    push_unsigned(number_of(frame.code), out)?;
-    push_unsigned(frame.id, out)?;
+    push_array_head(out, elements)?;
+    push_unsigned(out, frame.code.number().into())?;
+    push_unsigned(out, frame.id)?;
     push_origin(frame.origin, out)
 }
 
@@ -104,12 +91,12 @@ pub fn push_frame(version: Version, frame: &Frame, out: &mut Vec<u8>) -> Result<
     ensures ok { OnOk result (out.new.items ≡ out.old.items ++ text version frame.now) }
     ensures err { OnErr result (Extends out.old.items out.new.items) }
 {
-    let elements = least_elements(version) as u8;
+    let elements = least_elements(version);
     let len = payload_len(&frame.payload);
     if len == 0 {
         return push_front(elements, frame, out);
     }
     push_front(elements + 1, frame, out)?;
-    push_bin_head(len as usize, out)?;
+    push_bin_head(out, len as u32)?;
     push_payload(&frame.payload, out)
 }

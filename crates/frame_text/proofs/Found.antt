@@ -25,7 +25,8 @@ use Rattle.frame_text.specs.declared.fault.Fault.TheVariants.{Ends, Breaks}
 use Rattle.frame_text.specs.Codec.{is_packed, elements}
 use Rattle.frame_text.specs.Frames.{code_number}
 use Rattle.frame_text.specs.Front.{Whole}
-use Rattle.frame_text.specs.Reading.{Reading, Reader, follow, ◌>>=◌, done, Sort, a_number, a_str, a_bin, an_array, number_in, str_in, bin_in, array_in, unfinished, allowed, headed, head_at, token_at, inside, inner_at, code_of, code_in, id_in, origin_in, count_in, last_in, only, name_of, name_at, optional_at, offer_at, accepted_at, processed_at, spoiled, ended, carried, placed, run_of, payload_at, content_at, origin_at, packed_at, front_of, front}
+use Rattle.wire_base.specs.ControlCode.{code_of}
+use Rattle.frame_text.specs.Reading.{Reading, Reader, follow, ◌>>=◌, done, Sort, a_number, a_str, a_bin, an_array, number_in, str_in, bin_in, array_in, unfinished, allowed, headed, head_at, token_at, inside, inner_at, code_in, id_in, origin_in, count_in, last_in, only, name_of, name_at, optional_at, offer_at, accepted_at, processed_at, spoiled, ended, carried, placed, run_of, payload_at, content_at, origin_at, packed_at, front_of, front}
 use Rattle.frame_text.specs.Spelling.{IsHead, IsOptional, with_optional, IsName, IsOffer, IsAcceptance, IsAcknowledgement, Carries, IsSource, IsElement, PackedFrameIs, FrameIs}
 use Rattle.frame_text.proofs.Heads.{head-front}
 use Rattle.frame_text.proofs.Within.{tested}

@@ -19,7 +19,8 @@ use Rattle.wire_base.specs.declared.frame.Frame.{Frame}
 use Rattle.frame_text.specs.declared.fault.Fault.TheVariants.{Ends, Breaks}
 use Rattle.frame_text.specs.Frames.{code_number, plain_payload, fits_code, fits_id, fits_origin, fits_length, fits, text}
 use Rattle.frame_text.specs.Front.{Whole}
-use Rattle.frame_text.specs.Reading.{Reading, Reader, ◌>>=◌, follow, done, allowed, code_of, field_at, plain_code, plain_id, bytes_at, plain_carried, placed, plain_content_at, plain_at, front_of, front}
+use Rattle.wire_base.specs.ControlCode.{code_of}
+use Rattle.frame_text.specs.Reading.{Reading, Reader, ◌>>=◌, follow, done, allowed, field_at, plain_of, plain_code, plain_id, bytes_at, plain_carried, placed, plain_content_at, plain_at, front_of, front}
 use Rattle.frame_text.specs.Spelling.{AreBytes, CarriesPlain, PlainFrameIs}
 use Rattle.frame_text.proofs.Within.{tested}
 use Rattle.frame_text.proofs.Again.{front_of-again}
@@ -130,12 +131,17 @@ bytes-found n bytes x rest e =
           (record { len = simp length-take (omega arith); parts = sym (take-append-drop n bytes) })
     ]
 
-not_none : (t : Bool) (o : Option Code) (c : Code) → cond t None o ≡ Some c → o ≡ Some c
-not_none true o c e = absurd cc
-not_none false o c e = e
+not_plain : (o : Option Code) (c : Code) → plain_of o ≡ Some c → o ≡ Some c
+not_plain None c e = absurd cc
+not_plain (Some code.Offer) c e = e
+not_plain (Some code.OfferAccepted) c e = e
+not_plain (Some code.Content) c e = e
+not_plain (Some code.ContentWritingCompleted) c e = e
+not_plain (Some code.ChannelTerminated) c e = e
+not_plain (Some code.ContentProcessed) c e = absurd cc
 
 code-found : (n : ℕ) (c : Code) → plain_code n ≡ Some c → n ≡ code_number c
-code-found n c e = code_of-found n c (not_none (n == 5) (code_of n) c e)
+code-found n c e = code_of-found n c (not_plain (code_of n) c e)
 
 id-found : (n m : ℕ) → plain_id n ≡ Some m → (n ≡ m) × (0 < m)
 id-found n m e = elim (tested (n == 0)) [

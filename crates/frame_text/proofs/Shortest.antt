@@ -20,7 +20,8 @@ use Rattle.wire_base.specs.declared.frame.Payload.{Payload}
 use Rattle.wire_base.specs.declared.frame.Payload.TheVariants as payload
 use Rattle.wire_base.specs.declared.frame.Frame.{Frame}
 use Rattle.frame_text.specs.Codec.{is_packed, elements}
-use Rattle.frame_text.specs.Heads.{unsigned_text, str_head, bin_head, array_head}
+use Rattle.wire_base.specs.Shortest.{unsigned_text, str_head, bin_head, array_head}
+use Rattle.wire_base.proofs.ShortestLemmas.{length-unsigned_text, length-str_head, length-bin_head}
 use Rattle.frame_text.specs.Frames.{code_number, origin_text, str_text, payload_text, payload_element, is_empty, is_count, text, fits_code, fits_id, fits_origin, fits_length, fits}
 use Rattle.frame_text.specs.Front.{Whole}
 use Rattle.frame_text.specs.Reading.{front}
@@ -49,21 +50,6 @@ bytes-take n bytes h = bytes_left (take n bytes) (drop n bytes) (rw (take-append
 
 -- ---- how long shortest heads are
 
-number-most : (n : ℕ) → length (unsigned_text n) ≤ 9
-number-most n = elim (cases_lt n 0x80) [
-  | inl a ↦ rw (lt-ltb n 0x80 a) (omega arith)
-  | inr a ↦ elim (cases_lt n 0x100) [
-    | inl b ↦ rw (le-ltb n 0x80 a, lt-ltb n 0x100 b) (omega arith)
-    | inr b ↦ elim (cases_lt n 0x10000) [
-      | inl c ↦ rw (le-ltb n 0x80 a, le-ltb n 0x100 b, lt-ltb n 0x10000 c) (omega arith)
-      | inr c ↦ elim (cases_lt n 0x100000000) [
-        | inl d ↦ rw (le-ltb n 0x80 a, le-ltb n 0x100 b, le-ltb n 0x10000 c, lt-ltb n 0x100000000 d) (omega arith)
-        | inr d ↦ rw (le-ltb n 0x80 a, le-ltb n 0x100 b, le-ltb n 0x10000 c, le-ltb n 0x100000000 d) (omega arith)
-      ]
-    ]
-  ]
-]
-
 number-below_1 : (n : ℕ) → n < 0x100 → length (unsigned_text n) ≤ 2
 number-below_1 n lt = elim (cases_lt n 0x80) [
   | inl a ↦ rw (lt-ltb n 0x80 a) (omega arith)
@@ -83,18 +69,6 @@ number-below_4 n lt = elim (cases_lt n 0x10000) [
       let a : 0x80 ≤ n = omega arith in
       let b : 0x100 ≤ n = omega arith in
       rw (le-ltb n 0x80 a, le-ltb n 0x100 b, le-ltb n 0x10000 c, lt-ltb n 0x100000000 lt) (omega arith)
-]
-
-str-most : (n : ℕ) → length (str_head n) ≤ 5
-str-most n = elim (cases_lt n 0x20) [
-  | inl a ↦ rw (lt-ltb n 0x20 a) (omega arith)
-  | inr a ↦ elim (cases_lt n 0x100) [
-    | inl b ↦ rw (le-ltb n 0x20 a, lt-ltb n 0x100 b) (omega arith)
-    | inr b ↦ elim (cases_lt n 0x10000) [
-      | inl c ↦ rw (le-ltb n 0x20 a, le-ltb n 0x100 b, lt-ltb n 0x10000 c) (omega arith)
-      | inr c ↦ rw (le-ltb n 0x20 a, le-ltb n 0x100 b, le-ltb n 0x10000 c) (omega arith)
-    ]
-  ]
 ]
 
 str-below_1 : (n : ℕ) → n < 0x100 → length (str_head n) ≤ 2
@@ -125,15 +99,15 @@ number-wide : (w : Width) (bytes : List ℕ) → AreBytes bytes → length (unsi
 number-wide w8 bytes h = number-below_1 (from_be_bytes w8 bytes) (below-1 bytes h)
 number-wide w16 bytes h = number-below_2 (from_be_bytes w16 bytes) (below-2 bytes h)
 number-wide w32 bytes h = number-below_4 (from_be_bytes w32 bytes) (below-4 bytes h)
-number-wide w64 bytes h = number-most (from_be_bytes w64 bytes)
-number-wide w128 bytes h = let p = number-most (from_be_bytes w128 bytes) in omega (arith, p)
+number-wide w64 bytes h = (length-unsigned_text (from_be_bytes w64 bytes)).1
+number-wide w128 bytes h = let p = (length-unsigned_text (from_be_bytes w128 bytes)).1 in omega (arith, p)
 
 str-wide : (w : Width) (bytes : List ℕ) → AreBytes bytes → length (str_head (from_be_bytes w bytes)) ≤ byte_len w + 1
 str-wide w8 bytes h = str-below_1 (from_be_bytes w8 bytes) (below-1 bytes h)
 str-wide w16 bytes h = str-below_2 (from_be_bytes w16 bytes) (below-2 bytes h)
-str-wide w32 bytes h = str-most (from_be_bytes w32 bytes)
-str-wide w64 bytes h = let p = str-most (from_be_bytes w64 bytes) in omega (arith, p)
-str-wide w128 bytes h = let p = str-most (from_be_bytes w128 bytes) in omega (arith, p)
+str-wide w32 bytes h = (length-str_head (from_be_bytes w32 bytes)).1
+str-wide w64 bytes h = let p = (length-str_head (from_be_bytes w64 bytes)).1 in omega (arith, p)
+str-wide w128 bytes h = let p = (length-str_head (from_be_bytes w128 bytes)).1 in omega (arith, p)
 
 -- what the first byte says in itself is small
 abbrev IsSmall : Kind → Type 0
@@ -400,15 +374,6 @@ front_fits v bytes f size p h e = spelled_fits v f (take size bytes) p (bytes-ta
 
 -- ---- no frame is shorter
 
-bin-most : (n : ℕ) → length (bin_head n) ≤ 5
-bin-most n = elim (cases_lt n 0x100) [
-  | inl b ↦ rw (lt-ltb n 0x100 b) (omega arith)
-  | inr b ↦ elim (cases_lt n 0x10000) [
-    | inl c ↦ rw (le-ltb n 0x100 b, lt-ltb n 0x10000 c) (omega arith)
-    | inr c ↦ rw (le-ltb n 0x100 b, le-ltb n 0x10000 c) (omega arith)
-  ]
-]
-
 bin-below_1 : (n : ℕ) → n < 0x100 → length (bin_head n) ≤ 2
 bin-below_1 n lt = rw (lt-ltb n 0x100 lt) (omega arith)
 
@@ -442,16 +407,16 @@ bin-grows m n le = elim (cases_lt n 0x100) [
   | inl b ↦ omega (arith, bin-below_1 m (omega arith), bin-least n)
   | inr b ↦ elim (cases_lt n 0x10000) [
     | inl c ↦ omega (arith, bin-below_2 m (omega arith), bin-least_2 n b)
-    | inr c ↦ omega (arith, bin-most m, bin-least_4 n c)
+    | inr c ↦ omega (arith, (length-bin_head m).1, bin-least_4 n c)
   ]
 ]
 
 bin-wide : (w : Width) (bytes : List ℕ) → AreBytes bytes → length (bin_head (from_be_bytes w bytes)) ≤ byte_len w + 1
 bin-wide w8 bytes h = bin-below_1 (from_be_bytes w8 bytes) (below-1 bytes h)
 bin-wide w16 bytes h = bin-below_2 (from_be_bytes w16 bytes) (below-2 bytes h)
-bin-wide w32 bytes h = bin-most (from_be_bytes w32 bytes)
-bin-wide w64 bytes h = let p = bin-most (from_be_bytes w64 bytes) in omega (arith, p)
-bin-wide w128 bytes h = let p = bin-most (from_be_bytes w128 bytes) in omega (arith, p)
+bin-wide w32 bytes h = (length-bin_head (from_be_bytes w32 bytes)).1
+bin-wide w64 bytes h = let p = (length-bin_head (from_be_bytes w64 bytes)).1 in omega (arith, p)
+bin-wide w128 bytes h = let p = (length-bin_head (from_be_bytes w128 bytes)).1 in omega (arith, p)
 
 bin_same : (v n : ℕ) → token.Bin v ≡ token.Bin n → v ≡ n
 bin_same v n e = cc

@@ -19,96 +19,13 @@ use Rattle.wire_base.specs.declared.frame.Payload.{Payload}
 use Rattle.wire_base.specs.declared.frame.Payload.TheVariants as payload
 use Rattle.wire_base.specs.declared.frame.Frame.{Frame}
 use Rattle.frame_text.specs.Codec.{is_packed, elements}
-use Rattle.frame_text.specs.Heads.{unsigned_text, str_head, bin_head, array_head}
+use Rattle.wire_base.specs.Shortest.{unsigned_text, str_head, bin_head, array_head}
+use Rattle.wire_base.proofs.ShortestLemmas.{is_unsigned, is_str, is_bin}
 use Rattle.frame_text.specs.Frames.{code_number, origin_text, str_text, payload_text, payload_element, is_empty, is_count, fits_code, fits_id, fits_origin, fits_length, fits, text}
 use Rattle.frame_text.specs.Front.{Whole}
 use Rattle.frame_text.specs.Reading.{front}
 use Rattle.frame_text.specs.Spelling.{IsHead, IsNumber, IsOptional, with_optional, IsName, Carries, IsSource, PackedFrameIs, FrameIs}
 use Rattle.frame_text.proofs.Again.{spelled_front}
-
--- ---- heads
-
-small_number : (n : ℕ) → n < 0x80 → head_of (n ∷ []) ≡ Got (token.Whole (pos n)) 1
-small_number n lt = rw (lt-ltb n 0x80 lt) refl
-
-number_1 : (n : ℕ) → head_of (0xcc ∷ n ∷ []) ≡ Got (token.Whole (pos n)) 2
-unfolding lettered
-number_1 n = refl
-
-number_2 : (n : ℕ) → n < 2 ^ 16 → head_of (0xcd ∷ to_be_bytes w16 n) ≡ Got (token.Whole (pos n)) 3
-unfolding lettered
-number_2 n lt = ap (λ m. Got (token.Whole (pos m)) 3) (from_be_bytes-to_be_bytes_2 n lt)
-
-number_4 : (n : ℕ) → n < 2 ^ 32 → head_of (0xce ∷ to_be_bytes w32 n) ≡ Got (token.Whole (pos n)) 5
-unfolding lettered
-number_4 n lt = ap (λ m. Got (token.Whole (pos m)) 5) (from_be_bytes-to_be_bytes_4 n lt)
-
-number_8 : (n : ℕ) → n < 2 ^ 64 → head_of (0xcf ∷ to_be_bytes w64 n) ≡ Got (token.Whole (pos n)) 9
-unfolding lettered
-number_8 n lt = ap (λ m. Got (token.Whole (pos m)) 9) (from_be_bytes-to_be_bytes_8 n lt)
-
-pub is_number-text : (n : ℕ) → n < 2 ^ 64 → IsNumber (pos n) (unsigned_text n)
-is_number-text n lt = elim (cases_lt n 0x80) [
-  | inl a ↦ rw (lt-ltb n 0x80 a) (small_number n a)
-  | inr a ↦ elim (cases_lt n 0x100) [
-    | inl b ↦ rw (le-ltb n 0x80 a, lt-ltb n 0x100 b) (number_1 n)
-    | inr b ↦ elim (cases_lt n 0x10000) [
-      | inl c ↦ rw (le-ltb n 0x80 a, le-ltb n 0x100 b, lt-ltb n 0x10000 c) (number_2 n c)
-      | inr c ↦ elim (cases_lt n 0x100000000) [
-        | inl d ↦ rw (le-ltb n 0x80 a, le-ltb n 0x100 b, le-ltb n 0x10000 c, lt-ltb n 0x100000000 d) (number_4 n d)
-        | inr d ↦ rw (le-ltb n 0x80 a, le-ltb n 0x100 b, le-ltb n 0x10000 c, le-ltb n 0x100000000 d) (number_8 n lt)
-      ]
-    ]
-  ]
-]
-
-small_str : (n : ℕ) → n < 0x20 → head_of ((0xa0 + n) ∷ []) ≡ Got (token.Str n) 1
-small_str n lt = grind (arith, le-ltb, lt-ltb)
-
-str_1 : (n : ℕ) → head_of (0xd9 ∷ n ∷ []) ≡ Got (token.Str n) 2
-unfolding lettered
-str_1 n = refl
-
-str_2 : (n : ℕ) → n < 2 ^ 16 → head_of (0xda ∷ to_be_bytes w16 n) ≡ Got (token.Str n) 3
-unfolding lettered
-str_2 n lt = ap (λ m. Got (token.Str m) 3) (from_be_bytes-to_be_bytes_2 n lt)
-
-str_4 : (n : ℕ) → n < 2 ^ 32 → head_of (0xdb ∷ to_be_bytes w32 n) ≡ Got (token.Str n) 5
-unfolding lettered
-str_4 n lt = ap (λ m. Got (token.Str m) 5) (from_be_bytes-to_be_bytes_4 n lt)
-
-pub is_str-head : (n : ℕ) → n < 2 ^ 32 → IsHead (token.Str n) (str_head n)
-is_str-head n lt = elim (cases_lt n 0x20) [
-  | inl a ↦ rw (lt-ltb n 0x20 a) (small_str n a)
-  | inr a ↦ elim (cases_lt n 0x100) [
-    | inl b ↦ rw (le-ltb n 0x20 a, lt-ltb n 0x100 b) (str_1 n)
-    | inr b ↦ elim (cases_lt n 0x10000) [
-      | inl c ↦ rw (le-ltb n 0x20 a, le-ltb n 0x100 b, lt-ltb n 0x10000 c) (str_2 n c)
-      | inr c ↦ rw (le-ltb n 0x20 a, le-ltb n 0x100 b, le-ltb n 0x10000 c) (str_4 n lt)
-    ]
-  ]
-]
-
-bin_1 : (n : ℕ) → head_of (0xc4 ∷ n ∷ []) ≡ Got (token.Bin n) 2
-unfolding lettered
-bin_1 n = refl
-
-bin_2 : (n : ℕ) → n < 2 ^ 16 → head_of (0xc5 ∷ to_be_bytes w16 n) ≡ Got (token.Bin n) 3
-unfolding lettered
-bin_2 n lt = ap (λ m. Got (token.Bin m) 3) (from_be_bytes-to_be_bytes_2 n lt)
-
-bin_4 : (n : ℕ) → n < 2 ^ 32 → head_of (0xc6 ∷ to_be_bytes w32 n) ≡ Got (token.Bin n) 5
-unfolding lettered
-bin_4 n lt = ap (λ m. Got (token.Bin m) 5) (from_be_bytes-to_be_bytes_4 n lt)
-
-pub is_bin-head : (n : ℕ) → n < 2 ^ 32 → IsHead (token.Bin n) (bin_head n)
-is_bin-head n lt = elim (cases_lt n 0x100) [
-  | inl b ↦ rw (lt-ltb n 0x100 b) (bin_1 n)
-  | inr b ↦ elim (cases_lt n 0x10000) [
-    | inl c ↦ rw (le-ltb n 0x100 b, lt-ltb n 0x10000 c) (bin_2 n c)
-    | inr c ↦ rw (le-ltb n 0x100 b, le-ltb n 0x10000 c) (bin_4 n lt)
-  ]
-]
 
 -- ---- payloads
 
@@ -120,10 +37,10 @@ is_optional-text : (window : Option ℕ) → is_count window ≡ true → IsOpti
 is_optional-text None fit = refl
 is_optional-text (Some n) fit =
     let below : n < 0x8000000000000000 = ltb-true n 0x8000000000000000 fit in
-    (is_number-text n (omega (arith, below)), below)
+    (is_unsigned n (omega (arith, below)), below)
 
 is_name-text : (name : List ℕ) → is_utf8 name ≡ true → length name < 2 ^ 32 → IsName name (str_text name)
-is_name-text name utf8 lt = record { head = str_head (length name); is_head = is_str-head (length name) lt; utf8 = utf8; parts = refl }
+is_name-text name utf8 lt = record { head = str_head (length name); is_head = is_str (length name) lt; utf8 = utf8; parts = refl }
 
 pub offer-text : (name : List ℕ) (window : Option ℕ) → payload_text (payload.Offer name window) ≡ array_head (with_optional 1 window) ++ (str_text name ++ optional_text window)
 offer-text name None = ap (λ (s : List ℕ). array_head 1 ++ s) (sym (append-nil (str_text name)))
@@ -212,7 +129,7 @@ text_with-is v f [] p some below source most carries = record {
   bytes = [];
   is_array = is_array-text v false;
   is_code = is_code-text f.code;
-  is_id = is_number-text f.id (omega (arith, below));
+  is_id = is_unsigned f.id (omega (arith, below));
   some_id = some;
   id_below = below;
   is_source = is_source-text v f.origin p source;
@@ -232,11 +149,11 @@ text_with-is v f (b ∷ bytes) p some below source most carries =
       bytes = all;
       is_array = is_array-text v true;
       is_code = is_code-text f.code;
-      is_id = is_number-text f.id (omega (arith, below));
+      is_id = is_unsigned f.id (omega (arith, below));
       some_id = some;
       id_below = below;
       is_source = is_source-text v f.origin p source;
-      is_payload = record { head = bin_head (length all); is_head = is_bin-head (length all) (omega (arith, most)); most = most; parts = refl };
+      is_payload = record { head = bin_head (length all); is_head = is_bin (length all) (omega (arith, most)); most = most; parts = refl };
       carries = carries;
       parts = simp append_assoc;
     }

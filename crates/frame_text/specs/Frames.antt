@@ -12,15 +12,8 @@ use Rattle.wire_base.specs.declared.frame.Origin.TheVariants as origin
 use Rattle.wire_base.specs.declared.frame.Payload.{Payload}
 use Rattle.wire_base.specs.declared.frame.Payload.TheVariants as payload
 use Rattle.wire_base.specs.declared.frame.Frame.{Frame}
-use Rattle.frame_text.specs.Heads.{unsigned_text, str_head, bin_head, array_head}
-
-abbrev pub code_number : Code → ℕ
-code_number code.Offer = 0
-code_number code.OfferAccepted = 1
-code_number code.Content = 2
-code_number code.ContentWritingCompleted = 3
-code_number code.ChannelTerminated = 4
-code_number code.ContentProcessed = 5
+pub use Rattle.wire_base.specs.ControlCode.{code_number}
+use Rattle.wire_base.specs.Shortest.{unsigned_text, str_head, bin_head, array_head}
 
 -- the channel source: 1 where the sender offered the channel, -1 where the receiver did
 abbrev pub origin_text : Origin → List ℕ

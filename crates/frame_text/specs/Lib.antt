@@ -1,4 +1,3 @@
-pub mod Heads
 pub mod Frames
 pub mod Front
 pub mod Hello

@@ -13,6 +13,7 @@ use Rattle.wire_base.specs.declared.frame.Version.{Version}
 use Rattle.wire_base.specs.declared.frame.Version.TheVariants as version
 use Rattle.wire_base.specs.declared.frame.Code.{Code}
 use Rattle.wire_base.specs.declared.frame.Code.TheVariants as code
+use Rattle.wire_base.specs.ControlCode.{code_of}
 use Rattle.wire_base.specs.declared.frame.Origin.{Origin}
 use Rattle.wire_base.specs.declared.frame.Origin.TheVariants as origin
 use Rattle.wire_base.specs.declared.frame.Payload.{Payload}
@@ -147,16 +148,6 @@ inner_at sort make reason bytes = inside (length bytes) reason (token_at sort ma
 
 -- ---- numbers
 
-abbrev pub code_of : ℕ → Option Code
-code_of n =
-    if n == 0 then Some code.Offer
-    else if n == 1 then Some code.OfferAccepted
-    else if n == 2 then Some code.Content
-    else if n == 3 then Some code.ContentWritingCompleted
-    else if n == 4 then Some code.ChannelTerminated
-    else if n == 5 then Some code.ContentProcessed
-    else None
-
 abbrev pub code_in : ℤ → Option Code
 code_in (pos n) = code_of n
 code_in (negsuc k) = None
@@ -286,9 +277,14 @@ field_at w make reason bytes =
     if nat_lt (length bytes) (byte_len w) then Err Ends
     else allowed (length bytes) reason (make (from_be_bytes w (take (byte_len w) bytes))) (drop (byte_len w) bytes)
 
--- a code of version 1, which has no acknowledgement
+-- version 1 has no acknowledgement
+abbrev pub plain_of : Option Code → Option Code
+plain_of (Some code.ContentProcessed) = None
+plain_of c = c
+
+-- a code of version 1
 abbrev pub plain_code : ℕ → Option Code
-plain_code n = if n == 5 then None else code_of n
+plain_code n = plain_of (code_of n)
 
 abbrev pub plain_id : ℕ → Option ℕ
 plain_id n = if n == 0 then None else Some n

@@ -25,13 +25,9 @@ fn code(bytes: &[u8]) -> Result<(Code, &[u8]), Fault>
     let Some((number, rest)) = bytes.split_first() else {
         return Err(Fault::Ends);
     };
-    match *number {
-        0 => Ok((Code::Offer, rest)),
-        1 => Ok((Code::OfferAccepted, rest)),
-        2 => Ok((Code::Content, rest)),
-        3 => Ok((Code::ContentWritingCompleted, rest)),
-        4 => Ok((Code::ChannelTerminated, rest)),
-        _ => Err(breaks(bytes, Reason::BadCode)),
+    match Code::from_number(*number) {
+        Some(Code::ContentProcessed) | None => Err(breaks(bytes, Reason::BadCode)),
+        Some(code) => Ok((code, rest)),
     }
 }
 

@@ -9,19 +9,6 @@ use wire_base::{Code, Frame, OutOfMemory, Payload, Version};
 /// A frame has so many bytes before its payload.
 const HEADER_LEN: usize = 7;
 
-fn number_of(code: Code) -> u8
-    ensures { result ≡ code_number code }
-{
-    match code {
-        Code::Offer => 0,
-        Code::OfferAccepted => 1,
-        Code::Content => 2,
-        Code::ContentWritingCompleted => 3,
-        Code::ChannelTerminated => 4,
-        Code::ContentProcessed => 5,
-    }
-}
-
 /// A payload as it is written.
 pub fn payload_bytes(payload: &Payload) -> &[u8]
     ensures { result.now ≡ plain_payload payload.now }
@@ -39,15 +26,7 @@ fn header(code: Code, id: u32, size: u16) -> [u8; HEADER_LEN]
 {
     let id = id.to_be_bytes();
     let size = size.to_be_bytes();
-    [
-        number_of(code),
-        id[0],
-        id[1],
-        id[2],
-        id[3],
-        size[0],
-        size[1],
-    ]
+    [code.number(), id[0], id[1], id[2], id[3], size[0], size[1]]
 }
 
 #[tactic(auto, using(crate::proofs::FrameTexts::writing))]

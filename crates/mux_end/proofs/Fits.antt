@@ -6,7 +6,7 @@ use Rattle.std.proofs.lemmas.Bool.{lt-ltb, le-leb}
 use Rattle.std.proofs.lemmas.Str.{is_utf8-from_IsUtf8}
 use Rattle.wire_base.specs.declared.frame.Version.{Version}
 use Rattle.wire_base.specs.declared.frame.Version.TheVariants as version
-use Rattle.frame_text.specs.Heads.{unsigned_text, str_head}
+use Rattle.wire_base.specs.Shortest.{unsigned_text, str_head}
 use Rattle.frame_text.specs.Frames.{fits, fits_code, fits_id, fits_origin, fits_length, payload_text}
 use Rattle.wire_base.specs.declared.frame.Code.TheVariants as code
 use Rattle.wire_base.specs.declared.frame.Origin.TheVariants as origin

@@ -7,7 +7,7 @@ use Rattle.std.proofs.lemmas.List.{take_at, drop_at, take-append-le, take-append
 use Rattle.wire_base.specs.declared.frame.Version.{Version}
 use Rattle.wire_base.specs.declared.frame.Version.TheVariants as version
 use Rattle.wire_base.specs.declared.frame.Frame.{Frame}
-use Rattle.frame_text.specs.Heads.{array_head, unsigned_text}
+use Rattle.wire_base.specs.Shortest.{array_head, unsigned_text}
 use Rattle.frame_text.specs.Frames.{text, packed_text, payload_text, is_empty, code_number, origin_text, payload_element}
 use Rattle.mux_items.specs.Bodies.{ChannelFrame, frame_of, frame_text, frame_texts}
 use Rattle.mux_run.specs.Run.{whole_frames}

@@ -23,27 +23,21 @@ choice P n limit x y below above = elim (cases_lt n limit) [
 
 -- what holds of each form holds of the shortest
 unsigned-cases : (P : List ℕ → Type 0) (n : ℕ) → (n < 0x80 → P (n ∷ [])) → (n < 0x100 → P (0xcc ∷ n ∷ [])) → (n < 0x10000 → P (0xcd ∷ to_be_bytes w16 n)) → (n < 0x100000000 → P (0xce ∷ to_be_bytes w32 n)) → P (0xcf ∷ to_be_bytes w64 n) → P (unsigned_text n)
-unfolding unsigned_text
 unsigned-cases P n one two three five nine = choice P n 0x80 _ _ one (λ _. choice P n 0x100 _ _ two (λ _. choice P n 0x10000 _ _ three (λ _. choice P n 0x100000000 _ _ five (λ _. nine))))
 
 negative-cases : (P : List ℕ → Type 0) (k : ℕ) → (k < 0x20 → P (cast_unsigned w8 (negsuc k) ∷ [])) → (k < 0x80 → P (0xd0 ∷ cast_unsigned w8 (negsuc k) ∷ [])) → (k < 0x8000 → P (0xd1 ∷ to_be_bytes w16 (cast_unsigned w16 (negsuc k)))) → (k < 0x80000000 → P (0xd2 ∷ to_be_bytes w32 (cast_unsigned w32 (negsuc k)))) → P (0xd3 ∷ to_be_bytes w64 (cast_unsigned w64 (negsuc k))) → P (negative_text k)
-unfolding negative_text
 negative-cases P k one two three five nine = choice P k 0x20 _ _ one (λ _. choice P k 0x80 _ _ two (λ _. choice P k 0x8000 _ _ three (λ _. choice P k 0x80000000 _ _ five (λ _. nine))))
 
 str-cases : (P : List ℕ → Type 0) (n : ℕ) → (n < 0x20 → P ((0xa0 + n) ∷ [])) → (n < 0x100 → P (0xd9 ∷ n ∷ [])) → (n < 0x10000 → P (0xda ∷ to_be_bytes w16 n)) → P (0xdb ∷ to_be_bytes w32 n) → P (str_head n)
-unfolding str_head
 str-cases P n one two three five = choice P n 0x20 _ _ one (λ _. choice P n 0x100 _ _ two (λ _. choice P n 0x10000 _ _ three (λ _. five)))
 
 bin-cases : (P : List ℕ → Type 0) (n : ℕ) → (n < 0x100 → P (0xc4 ∷ n ∷ [])) → (n < 0x10000 → P (0xc5 ∷ to_be_bytes w16 n)) → P (0xc6 ∷ to_be_bytes w32 n) → P (bin_head n)
-unfolding bin_head
 bin-cases P n two three five = choice P n 0x100 _ _ two (λ _. choice P n 0x10000 _ _ three (λ _. five))
 
 array-cases : (P : List ℕ → Type 0) (n : ℕ) → (n < 0x10 → P ((0x90 + n) ∷ [])) → (n < 0x10000 → P (0xdc ∷ to_be_bytes w16 n)) → P (0xdd ∷ to_be_bytes w32 n) → P (array_head n)
-unfolding array_head
 array-cases P n one three five = choice P n 0x10 _ _ one (λ _. choice P n 0x10000 _ _ three (λ _. five))
 
 map-cases : (P : List ℕ → Type 0) (n : ℕ) → (n < 0x10 → P ((0x80 + n) ∷ [])) → (n < 0x10000 → P (0xde ∷ to_be_bytes w16 n)) → P (0xdf ∷ to_be_bytes w32 n) → P (map_head n)
-unfolding map_head
 map-cases P n one three five = choice P n 0x10 _ _ one (λ _. choice P n 0x10000 _ _ three (λ _. five))
 
 -- a first byte that says which number follows, and that number
@@ -61,10 +55,10 @@ module _ (b : ℕ) (f : ℕ → TokenHead) (n : ℕ) where
   after_64 is lt = is (to_be_bytes w64 n) ∙ ap (λ (m : ℕ). Got (f m) 9) (from_be_bytes-to_be_bytes_8 n lt)
 
 -- these bytes are a head of that token, all of them
-abbrev IsHead : TokenHead → List ℕ → Type 0
+abbrev pub IsHead : TokenHead → List ℕ → Type 0
 IsHead h bytes = head_of bytes ≡ Got h (length bytes)
 
-is_unsigned : (n : ℕ) → n < 2 ^ 64 → IsHead (token.Whole (pos n)) (unsigned_text n)
+pub is_unsigned : (n : ℕ) → n < 2 ^ 64 → IsHead (token.Whole (pos n)) (unsigned_text n)
 unfolding lettered
 is_unsigned n lt = unsigned-cases (λ s. IsHead (token.Whole (pos n)) s) n
     (λ lt. rw (lt-ltb n 0x80 lt) refl)
@@ -86,7 +80,7 @@ is_negative k lt = negative-cases (λ s. IsHead (token.Whole (negsuc k)) s) k
     (λ lt. after_32 0xd2 (λ m. token.Whole (cast_signed w32 m)) (2 ^ 32 - suc k) (λ s. refl) (omega arith) ∙ ap (λ (z : ℤ). Got (token.Whole z) 5) (to_z-neg w32 k lt))
     (after_64 0xd3 (λ m. token.Whole (cast_signed w64 m)) (2 ^ 64 - suc k) (λ s. refl) (omega arith) ∙ ap (λ (z : ℤ). Got (token.Whole z) 9) (to_z-neg w64 k lt))
 
-is_str : (n : ℕ) → n < 2 ^ 32 → IsHead (token.Str n) (str_head n)
+pub is_str : (n : ℕ) → n < 2 ^ 32 → IsHead (token.Str n) (str_head n)
 unfolding lettered
 is_str n lt = str-cases (λ s. IsHead (token.Str n) s) n
     (λ lt. grind (arith, le-ltb, lt-ltb))
@@ -94,7 +88,7 @@ is_str n lt = str-cases (λ s. IsHead (token.Str n) s) n
     (after_16 0xda (λ m. token.Str m) n (λ s. refl))
     (after_32 0xdb (λ m. token.Str m) n (λ s. refl) lt)
 
-is_bin : (n : ℕ) → n < 2 ^ 32 → IsHead (token.Bin n) (bin_head n)
+pub is_bin : (n : ℕ) → n < 2 ^ 32 → IsHead (token.Bin n) (bin_head n)
 unfolding lettered
 is_bin n lt = bin-cases (λ s. IsHead (token.Bin n) s) n
     (λ _. after_8 0xc4 (λ m. token.Bin m) n (λ s. refl))
@@ -116,7 +110,6 @@ is_map n lt = map-cases (λ s. IsHead (token.Map n) s) n
     (after_32 0xdf (λ m. token.Map m) n (λ s. refl) lt)
 
 is_whole : (z : ℤ) → IsWhole z → IsHead (token.Whole z) (whole_text z)
-unfolding whole_text
 is_whole (pos n) range = is_unsigned n (omega (arith, ints, range.1))
 is_whole (negsuc k) range = is_negative k (omega (arith, ints, range.0))
 
@@ -149,7 +142,6 @@ length-negative_text : (k : ℕ) → HasUpTo 9 (negative_text k)
 length-negative_text k = negative-cases (HasUpTo 9) k (λ _. (omega arith, omega arith)) (λ _. (omega arith, omega arith)) (λ _. (omega arith, omega arith)) (λ _. (omega arith, omega arith)) (omega arith, omega arith)
 
 pub length-whole_text : (z : ℤ) → HasUpTo 9 (whole_text z)
-unfolding whole_text
 length-whole_text (pos n) = length-unsigned_text n
 length-whole_text (negsuc k) = length-negative_text k
 

@@ -12,3 +12,4 @@ pub mod Numbers
 pub mod Shortest
 pub mod Appends
 pub mod Standard
+pub mod ControlCode

@@ -3,7 +3,7 @@ use Rattle.std.specs.Prelude.{ℕ, ◌+◌, List, [], ◌∷◌, ℤ, pos, negsu
 use Rattle.std.specs.Int.{w8, w16, w32, w64, cast_unsigned, to_be_bytes}
 
 -- the token of a number that isn't negative, below 2^64
-unfoldable pub unsigned_text : ℕ → List ℕ
+abbrev pub unsigned_text : ℕ → List ℕ
 unsigned_text n =
     if nat_lt n 0x80 then n ∷ []
     else if nat_lt n 0x100 then 0xcc ∷ n ∷ []
@@ -12,7 +12,7 @@ unsigned_text n =
     else 0xcf ∷ to_be_bytes w64 n
 
 -- the token of the negative number -(k + 1), from -2^63, in two's complement
-unfoldable pub negative_text : ℕ → List ℕ
+abbrev pub negative_text : ℕ → List ℕ
 negative_text k =
     if nat_lt k 0x20 then cast_unsigned w8 (negsuc k) ∷ []
     else if nat_lt k 0x80 then 0xd0 ∷ cast_unsigned w8 (negsuc k) ∷ []
@@ -21,12 +21,12 @@ negative_text k =
     else 0xd3 ∷ to_be_bytes w64 (cast_unsigned w64 (negsuc k))
 
 -- the token of a whole number from -2^63 to 2^64 - 1
-unfoldable pub whole_text : ℤ → List ℕ
+abbrev pub whole_text : ℤ → List ℕ
 whole_text (pos n) = unsigned_text n
 whole_text (negsuc k) = negative_text k
 
 -- the head of a str of n bytes, n below 2^32
-unfoldable pub str_head : ℕ → List ℕ
+abbrev pub str_head : ℕ → List ℕ
 str_head n =
     if nat_lt n 0x20 then (0xa0 + n) ∷ []
     else if nat_lt n 0x100 then 0xd9 ∷ n ∷ []
@@ -34,21 +34,21 @@ str_head n =
     else 0xdb ∷ to_be_bytes w32 n
 
 -- the head of a bin of n bytes, n below 2^32
-unfoldable pub bin_head : ℕ → List ℕ
+abbrev pub bin_head : ℕ → List ℕ
 bin_head n =
     if nat_lt n 0x100 then 0xc4 ∷ n ∷ []
     else if nat_lt n 0x10000 then 0xc5 ∷ to_be_bytes w16 n
     else 0xc6 ∷ to_be_bytes w32 n
 
 -- the head of an array of n elements, n below 2^32
-unfoldable pub array_head : ℕ → List ℕ
+abbrev pub array_head : ℕ → List ℕ
 array_head n =
     if nat_lt n 0x10 then (0x90 + n) ∷ []
     else if nat_lt n 0x10000 then 0xdc ∷ to_be_bytes w16 n
     else 0xdd ∷ to_be_bytes w32 n
 
 -- the head of a map of n pairs, n below 2^32
-unfoldable pub map_head : ℕ → List ℕ
+abbrev pub map_head : ℕ → List ℕ
 map_head n =
     if nat_lt n 0x10 then (0x80 + n) ∷ []
     else if nat_lt n 0x10000 then 0xde ∷ to_be_bytes w16 n

@@ -1,5 +1,8 @@
 //! Frames of a multiplexing stream.
 
+ghost use Rattle.std.specs.Prelude.{◌≡◌};
+ghost use Rattle.wire_base.specs.ControlCode.{code_number, code_of};
+
 use crate::blob::Blob;
 use crate::place::Place;
 use crate::reason::Reason;
@@ -22,6 +25,37 @@ pub enum Code {
     ContentWritingCompleted,
     ChannelTerminated,
     ContentProcessed,
+}
+
+impl Code {
+    /// The number that stands for it in a frame.
+    pub fn number(self) -> u8
+        ensures { result ≡ code_number self }
+    {
+        match self {
+            Code::Offer => 0,
+            Code::OfferAccepted => 1,
+            Code::Content => 2,
+            Code::ContentWritingCompleted => 3,
+            Code::ChannelTerminated => 4,
+            Code::ContentProcessed => 5,
+        }
+    }
+
+    /// The code that a number stands for, if any.
+    pub fn from_number(number: u8) -> Option<Code>
+        ensures { result ≡ code_of number }
+    {
+        match number {
+            0 => Some(Code::Offer),
+            1 => Some(Code::OfferAccepted),
+            2 => Some(Code::Content),
+            3 => Some(Code::ContentWritingCompleted),
+            4 => Some(Code::ChannelTerminated),
+            5 => Some(Code::ContentProcessed),
+            _ => None,
+        }
+    }
 }
 
 /// Who offered the frame's channel: the frame's sender, its receiver, or in versions 1 and 2 who the id's parity says.

@@ -40,7 +40,6 @@ fn push_u64(out: &mut Vec<u8>, first: u8, n: u64) -> Result<(), OutOfMemory>
 }
 
 /// Appends the token of a number that isn't negative. After an error `out` is as it was, here and below.
-#[tactic(auto, unfolding(crate::specs::Shortest::unsigned_text))]
 pub fn push_unsigned(out: &mut Vec<u8>, n: u64) -> Result<(), OutOfMemory>
     ensures ok { OnOk result (out.new.items ≡ out.old.items ++ unsigned_text n) }
     ensures err { OnErr result (out.new.items ≡ out.old.items) }
@@ -58,7 +57,6 @@ pub fn push_unsigned(out: &mut Vec<u8>, n: u64) -> Result<(), OutOfMemory>
     }
 }
 
-#[tactic(auto, unfolding(crate::specs::Shortest::whole_text, crate::specs::Shortest::negative_text))]
 fn push_negative(out: &mut Vec<u8>, n: i64) -> Result<(), OutOfMemory>
     requires { n <ℤ pos 0 }
     ensures ok { OnOk result (out.new.items ≡ out.old.items ++ whole_text n) }
@@ -78,7 +76,6 @@ fn push_negative(out: &mut Vec<u8>, n: i64) -> Result<(), OutOfMemory>
 }
 
 /// Appends the token of a whole number.
-#[tactic(auto, unfolding(crate::specs::Shortest::whole_text))]
 pub fn push_whole(out: &mut Vec<u8>, n: Whole) -> Result<(), OutOfMemory>
     ensures ok { OnOk result (out.new.items ≡ out.old.items ++ whole_text n) }
     ensures err { OnErr result (out.new.items ≡ out.old.items) }
@@ -92,7 +89,6 @@ pub fn push_whole(out: &mut Vec<u8>, n: Whole) -> Result<(), OutOfMemory>
 }
 
 /// Appends the head of a str of n bytes.
-#[tactic(auto, unfolding(crate::specs::Shortest::str_head))]
 pub fn push_str_head(out: &mut Vec<u8>, n: u32) -> Result<(), OutOfMemory>
     ensures ok { OnOk result (out.new.items ≡ out.old.items ++ str_head n) }
     ensures err { OnErr result (out.new.items ≡ out.old.items) }
@@ -109,7 +105,6 @@ pub fn push_str_head(out: &mut Vec<u8>, n: u32) -> Result<(), OutOfMemory>
 }
 
 /// Appends the head of a bin of n bytes.
-#[tactic(auto, unfolding(crate::specs::Shortest::bin_head))]
 pub fn push_bin_head(out: &mut Vec<u8>, n: u32) -> Result<(), OutOfMemory>
     ensures ok { OnOk result (out.new.items ≡ out.old.items ++ bin_head n) }
     ensures err { OnErr result (out.new.items ≡ out.old.items) }
@@ -124,7 +119,6 @@ pub fn push_bin_head(out: &mut Vec<u8>, n: u32) -> Result<(), OutOfMemory>
 }
 
 /// Appends the head of an array of n elements.
-#[tactic(auto, unfolding(crate::specs::Shortest::array_head))]
 pub fn push_array_head(out: &mut Vec<u8>, n: u32) -> Result<(), OutOfMemory>
     ensures ok { OnOk result (out.new.items ≡ out.old.items ++ array_head n) }
     ensures err { OnErr result (out.new.items ≡ out.old.items) }
@@ -139,7 +133,6 @@ pub fn push_array_head(out: &mut Vec<u8>, n: u32) -> Result<(), OutOfMemory>
 }
 
 /// Appends the head of a map of n pairs.
-#[tactic(auto, unfolding(crate::specs::Shortest::map_head))]
 pub fn push_map_head(out: &mut Vec<u8>, n: u32) -> Result<(), OutOfMemory>
     ensures ok { OnOk result (out.new.items ≡ out.old.items ++ map_head n) }
     ensures err { OnErr result (out.new.items ≡ out.old.items) }
