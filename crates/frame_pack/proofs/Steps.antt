@@ -4,10 +4,11 @@ use Rattle.wire_base.specs.declared.reason.Reason.{Reason}
 use Rattle.wire_base.specs.declared.frame.Version.{Version}
 use Rattle.wire_base.specs.declared.frame.Version.TheVariants as version
 use Rattle.wire_base.specs.declared.frame.Frame.{Frame}
-use Rattle.frame_text.specs.declared.fault.Fault.TheVariants.{Breaks}
+use Rattle.wire_base.specs.declared.reading.Fault.TheVariants.{Breaks}
 use Rattle.frame_text.specs.Codec.{is_packed}
 use Rattle.frame_text.specs.Reading.{Reading, packed_at, frame_at}
-use Rattle.frame_text.proofs.Within.{IsWithin, packed_at-stops}
+use Rattle.wire_base.proofs.TokenWithin.{IsWithin}
+use Rattle.frame_text.proofs.Within.{packed_at-stops}
 
 pub frame_at-packed : (v : Version) (bytes : List ℕ) → is_packed v ≡ true → frame_at v bytes ≡ packed_at v bytes
 frame_at-packed version.One bytes e = absurd cc

@@ -5,7 +5,7 @@ ghost use Rattle.frame_text.specs.Frames.{fits, fits_code, fits_id, fits_length,
 ghost use Rattle.std.specs.Prelude.{◌≡◌, ◌<◌, ◌^◌, length, true, Some};
 ghost use Rattle.wire_base.specs.Shortest.{str_head, unsigned_text};
 
-use wire_base::{Code, Frame, Origin, Payload, Text, Version};
+use wire_base::{COUNT_LIMIT, Code, Frame, MAX_PAYLOAD, Origin, Payload, Text, Version};
 
 fn unsigned_len(n: u64) -> u128
     ensures exact { result ≡ length (unsigned_text n) }
@@ -67,7 +67,7 @@ pub fn payload_len(payload: &Payload) -> u128
 fn fits_count(count: u64) -> bool
     ensures { result ≡ is_count (Some count) }
 {
-    count < 0x8000_0000_0000_0000
+    count < COUNT_LIMIT
 }
 
 fn fits_window(window: Option<u64>) -> bool
@@ -101,7 +101,7 @@ fn fits_code(code: Code, payload: &Payload) -> bool
 fn fits_id(id: u64) -> bool
     ensures { result ≡ fits_id Version.Two id }
 {
-    0 < id && id < 0x8000_0000_0000_0000
+    0 < id && id < COUNT_LIMIT
 }
 
 fn fits_origin(version: Version, origin: Origin) -> bool
@@ -122,5 +122,5 @@ pub fn fits(version: Version, frame: &Frame) -> bool
     fits_code(frame.code, &frame.payload)
         && fits_id(frame.id)
         && fits_origin(version, frame.origin)
-        && payload_len(&frame.payload) <= 0x10_0000
+        && payload_len(&frame.payload) <= MAX_PAYLOAD as u128
 }

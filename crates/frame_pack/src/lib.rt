@@ -3,10 +3,9 @@
 
 mod codec;
 mod fits;
+mod numbers;
 mod payload;
 mod reading;
-mod tokens;
 mod writing;
 
 pub use codec::PackCodec;
-pub use tokens::{array_of, bin_of, breaks, count, number};

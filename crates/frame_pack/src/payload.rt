@@ -5,12 +5,13 @@ ghost use Rattle.std.specs.Prelude.{◌≡◌, ◌<◌, length, Ok, Some};
 ghost use Rattle.wire_base.specs.Head.{head_of};
 ghost use Rattle.wire_base.specs.declared.reason.Reason.TheVariants.{BadOffer, BadAcceptance, BadProcessed};
 
-use crate::tokens::{array_of, breaks, count, open_array, str_head};
-use frame_text::{DecodeError, Fault};
 use std::alloc::Global;
-use wire_base::{Blob, Code, HeadStep, Payload, Reason, Text, TextFault, head};
+use wire_base::{
+    Blob, Code, DecodeError, Fault, HeadStep, Payload, Reason, Text, TextFault, array_of, breaks,
+    count, head, open_array, str_head,
+};
 
-#[tactic(auto, unfolding(frame_text::specs::Reading::inner_at))]
+#[tactic(auto, unfolding(wire_base::specs::Tokens::inner_at))]
 fn inner_array(least: u32, reason: Reason, bytes: &[u8]) -> Result<(bool, &[u8]), Fault>
     requires { least < 8 }
     ensures { Says (λ x. (x.0, x.1.now)) result (inner_at an_array (last_in least) reason bytes.now) }
@@ -21,7 +22,7 @@ fn inner_array(least: u32, reason: Reason, bytes: &[u8]) -> Result<(bool, &[u8])
     }
 }
 
-#[tactic(auto, unfolding(frame_text::specs::Reading::inner_at))]
+#[tactic(auto, unfolding(wire_base::specs::Tokens::inner_at))]
 fn inner_array_of(elements: u32, reason: Reason, bytes: &[u8]) -> Result<(u32, &[u8]), Fault>
     ensures { Says (λ x. (x.0, x.1.now)) result (inner_at an_array (only elements) reason bytes.now) }
 {
@@ -31,7 +32,7 @@ fn inner_array_of(elements: u32, reason: Reason, bytes: &[u8]) -> Result<(u32, &
     }
 }
 
-#[tactic(auto, unfolding(frame_text::specs::Reading::inner_at))]
+#[tactic(auto, unfolding(wire_base::specs::Tokens::inner_at))]
 fn inner_count(reason: Reason, bytes: &[u8]) -> Result<(u64, &[u8]), Fault>
     ensures { Says (λ x. (x.0, x.1.now)) result (inner_at a_number count_in reason bytes.now) }
 {
@@ -41,7 +42,7 @@ fn inner_count(reason: Reason, bytes: &[u8]) -> Result<(u64, &[u8]), Fault>
     }
 }
 
-#[tactic(auto, unfolding(frame_text::specs::Reading::inner_at, frame_text::specs::Reading::token_at))]
+#[tactic(auto, unfolding(wire_base::specs::Tokens::inner_at, wire_base::specs::Tokens::token_at))]
 fn inner_str(reason: Reason, bytes: &[u8]) -> Result<(u32, &[u8]), Fault>
     ensures { Says (λ x. (x.0, x.1.now)) result (inner_at a_str (λ n. Some n) reason bytes.now) }
 {

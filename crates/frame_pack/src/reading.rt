@@ -2,16 +2,15 @@
 
 ghost use Rattle.frame_text.specs.Codec.{Decodes, elements, is_packed};
 ghost use Rattle.frame_text.specs.Reading.{Gives, Says, content_at, front, origin_at, packed_at, payload_at};
-ghost use Rattle.std.specs.Prelude.{◌≡◌, ◌<◌, ◌≤◌, ◌^◌, true};
+ghost use Rattle.std.specs.Prelude.{◌≡◌, ◌<◌, ◌≤◌, true};
 
+use crate::numbers::{code, id, source};
 use crate::payload::carried;
-use crate::tokens::{bin_head, breaks, code, id, open_array, source};
-use frame_text::{DecodeError, Fault};
 use std::alloc::Global;
-use wire_base::{Code, Frame, FrameStep, Origin, Payload, Place, Reason, Version};
-
-/// A payload has at most so many bytes.
-const MAX_PAYLOAD: u32 = 0x10_0000;
+use wire_base::{
+    Code, DecodeError, Fault, Frame, FrameStep, MAX_PAYLOAD, MAX_PLACE, Origin, Payload, Place,
+    Reason, Version, bin_head, breaks, open_array,
+};
 
 /// A payload's bytes, and the bytes after it.
 #[tactic(auto, unfolding(frame_text::specs::Reading::payload_at))]
@@ -93,7 +92,7 @@ fn packed(alloc: Global, version: Version, bytes: &[u8]) -> Result<(Frame, &[u8]
 #[tactic(auto, using(crate::proofs::Steps::steps), unfolding(frame_text::specs::Reading::front))]
 pub fn step(alloc: Global, version: Version, bytes: &[u8], at: Place) -> FrameStep
     requires packed { is_packed version ≡ true }
-    requires room { at.0 ≤ 2 ^ 63 }
+    requires room { at.0 ≤ MAX_PLACE }
     ensures { Decodes result bytes.now at (front version bytes.now) }
 {
     match packed(alloc, version, bytes) {

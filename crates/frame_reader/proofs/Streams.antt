@@ -80,7 +80,7 @@ place_is p q e = subst (λ n. p ≡ record { 0 = n }) e refl
 
 pub refuses-again : (answer : Next) (old new : Unread) (place : Place) (reason : Reason) → Answers answer old new → RefusesAt old place reason → (answer ≡ next.Refused place reason) ⊎ (answer ≡ next.OutOfMemory)
 refuses-again (next.Frame at frame) old new place reason a h = absurd (let e : Whole frame a.0 ≡ Broken h.offset reason = sym a.1 ∙ h.broken in cc)
-refuses-again next.Short old new place reason a h = absurd (let e : Short ≡ Broken h.offset reason = sym a.0 ∙ h.broken in cc)
+refuses-again next.Short old new place reason a h = absurd (let short = a.0 in let broken = h.broken in cc)
 refuses-again (next.Refused at cause) old new place reason a h =
     let e : Broken a.0.offset cause ≡ Broken h.offset reason = sym a.0.broken ∙ h.broken in
     let offset : a.0.offset ≡ h.offset = cc in

@@ -6,7 +6,7 @@ ghost use Rattle.frame_reader.specs.Unread.{with_piece, with_refusal, without_fr
 ghost use Rattle.frame_text.specs.Codec.{Decodes};
 ghost use Rattle.frame_text.specs.Frames.{fits};
 ghost use Rattle.frame_text.specs.Reading.{front};
-ghost use Rattle.std.specs.Prelude.{◌≡◌, ◌+◌, ◌<◌, ◌≤◌, ◌^◌, ◌++◌, ◌⊎◌, ℕ, List, [], length, true, false, OnErr, OnOk};
+ghost use Rattle.std.specs.Prelude.{◌≡◌, ◌+◌, ◌<◌, ◌≤◌, ◌++◌, ◌⊎◌, ℕ, List, [], length, true, false, OnErr, OnOk};
 ghost use Rattle.wire_base.specs.declared.frame.Frame.{Frame};
 ghost use Rattle.wire_base.specs.declared.place.Place.{Place};
 ghost use Rattle.wire_base.specs.declared.reason.Reason.{Reason};
@@ -15,7 +15,7 @@ use crate::next::Next;
 use frame_text::FrameCodec;
 use std::alloc::Global;
 use std::marker::Model;
-use wire_base::{FrameStep, OutOfMemory, Place};
+use wire_base::{FrameStep, MAX_FED, MAX_PLACE, OutOfMemory, Place};
 
 /// Reads the frames of a stream that comes in pieces, seen by contracts as what it has not given yet.
 #[derive(Drop)]
@@ -46,7 +46,7 @@ impl<C: FrameCodec> Model for FrameReader<C> {
 
 /// What stands at the front of these bytes, whose first byte stands at this place.
 fn front<C: FrameCodec>(alloc: Global, codec: &C, bytes: &[u8], at: Place) -> FrameStep
-    requires { at.0 ≤ 2 ^ 63 }
+    requires { at.0 ≤ MAX_PLACE }
     ensures answer { Decodes result bytes.now at (front (C.version codec.now) bytes.now) }
     ensures fits { (frame : Frame) (size : ℕ) → result ≡ FrameStep.Got frame size → fits (C.version codec.now) frame ≡ true }
 {
@@ -56,7 +56,7 @@ fn front<C: FrameCodec>(alloc: Global, codec: &C, bytes: &[u8], at: Place) -> Fr
 impl<C: FrameCodec> FrameReader<C> {
     /// A reader of a stream whose first byte stands at `start`. Takes no memory.
     pub fn new(alloc: Global, codec: C, start: Place) -> FrameReader<C>
-        requires { start.0 ≤ 2 ^ 62 }
+        requires { start.0 ≤ MAX_FED }
         ensures empty { result ≡ record { version = C.version codec; at = start.0; rest = []; fed = 0; begun = false } }
         ensures reads { Reads result start.0 [] [] }
     {
@@ -73,7 +73,7 @@ impl<C: FrameCodec> FrameReader<C> {
 
     /// Takes the next piece of the stream.
     pub fn feed(&mut self, piece: &[u8]) -> Result<(), OutOfMemory>
-        requires { self.old.fed + length piece.now ≤ 2 ^ 62 }
+        requires { self.old.fed + length piece.now ≤ MAX_FED }
         ensures ok { OnOk result (self.new ≡ with_piece piece.now self.old) }
         ensures err { OnErr result (self.new ≡ self.old) }
         ensures reads { (start : ℕ) (stream : List ℕ) (given : List (ℕ × Frame)) → Reads self.old start stream given →

@@ -21,30 +21,10 @@ use Rattle.wire_base.specs.declared.frame.Frame.{Frame}
 use Rattle.frame_text.specs.Codec.{is_packed, elements}
 use Rattle.frame_text.specs.Frames.{code_number}
 use Rattle.frame_text.specs.Front.{Whole}
-use Rattle.frame_text.specs.Reading.{Reading, follow, done, Sort, a_number, a_str, a_bin, an_array, allowed, headed, head_at, token_at, inside, inner_at, code_in, id_in, origin_in, count_in, last_in, only, name_of, name_at, optional_at, offer_at, accepted_at, processed_at, ended, carried, placed, run_of, payload_at, content_at, origin_at, packed_at, frame_at, front_of, front}
+use Rattle.frame_text.specs.Reading.{Reading, follow, done, Sort, a_number, a_str, a_bin, an_array, allowed, headed, head_at, token_at, inside, inner_at, code_in, id_in, origin_in, count_in, last_in, only, name_of, name_at, optional_at, offer_at, accepted_at, processed_at, ended, carried, placed, run_of, payload_at, content_at, origin_at, packed_at, frame_at, front}
+use Rattle.wire_base.specs.Front.{front_of}
 use Rattle.frame_text.specs.Spelling.{IsHead, IsOptional, with_optional, IsName, IsOffer, IsAcceptance, IsAcknowledgement, Carries, IsSource, IsElement, PackedFrameIs, FrameIs}
-use Rattle.frame_text.proofs.Heads.{head-more}
-
--- ---- tokens
-
-headed-again : {A : Type 0} (sort : Sort A) (reason : Reason) (h : TokenHead) (x : A) (b rest : List ℕ) → sort.says h ≡ Some x → headed sort reason (step.Got h (length b)) (b ++ rest) ≡ Ok (x, rest)
-headed-again sort reason h x b rest says = rw (says, drop_at b rest (length b) refl) refl
-
-pub head_at-again : {A : Type 0} (sort : Sort A) (reason : Reason) (h : TokenHead) (x : A) (b rest : List ℕ) → IsHead h b → sort.says h ≡ Some x → head_at sort reason (b ++ rest) ≡ Ok (x, rest)
-unfolding head_at
-head_at-again sort reason h x b rest is says =
-    ap (λ s. headed sort reason s (b ++ rest)) (head-more b rest h (length b) is) ∙ headed-again sort reason h x b rest says
-
-pub token_at-again : {A B : Type 0} (sort : Sort A) (make : A → Option B) (reason : Reason) (h : TokenHead) (x : A) (y : B) (b rest : List ℕ) → IsHead h b → sort.says h ≡ Some x → make x ≡ Some y → token_at sort make reason (b ++ rest) ≡ Ok (y, rest)
-unfolding token_at
-token_at-again sort make reason h x y b rest is says makes =
-    ap (λ r. follow r (λ z. allowed (length (b ++ rest)) reason (make z))) (head_at-again sort reason h x b rest is says)
-    ∙ ap (λ o. allowed (length (b ++ rest)) reason o rest) makes
-
-pub inner_at-again : {A B : Type 0} (sort : Sort A) (make : A → Option B) (reason : Reason) (h : TokenHead) (x : A) (y : B) (b rest : List ℕ) → IsHead h b → sort.says h ≡ Some x → make x ≡ Some y → inner_at sort make reason (b ++ rest) ≡ Ok (y, rest)
-unfolding inner_at
-inner_at-again sort make reason h x y b rest is says makes =
-    ap (λ r. inside (length (b ++ rest)) reason r) (token_at-again sort make reason h x y b rest is says makes)
+use Rattle.wire_base.proofs.TokenAgain.{head_at-again, token_at-again, inner_at-again, count_in-again}
 
 -- ---- numbers
 
@@ -58,9 +38,6 @@ code_in-again code.ContentProcessed = refl
 
 id_in-again : (n : ℕ) → 0 < n → n < 0x8000000000000000 → id_in (pos n) ≡ Some n
 id_in-again n some below = rw (lt-ltb 0 n some, lt-ltb n 0x8000000000000000 below) refl
-
-count_in-again : (n : ℕ) → n < 0x8000000000000000 → count_in (pos n) ≡ Some n
-count_in-again n below = rw (lt-ltb n 0x8000000000000000 below) refl
 
 abbrev present : Option ℕ → Bool
 present None = false

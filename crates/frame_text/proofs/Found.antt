@@ -2,7 +2,7 @@
 use Rattle.std.proofs.Common.{◌≡◌, ℕ, ◌+◌, ◌-◌, ◌≤◌, ◌<◌, Bool, true, false, cond, ltb, List, [], ◌∷◌, ◌++◌, length, take, drop, Option, Some, None, Result, Ok, Err, refl, sym, ap, subst, ◌∙◌, arith, length-append, append_assoc, inl, inr, ◌⊎◌}
 use Rattle.std.specs.Prelude.{◌&&◌, nat_lt, ◌==◌, ℤ, pos, negsuc}
 use Rattle.std.proofs.lemmas.Bool.{ltb-true, ltb-false, eqb-true, and_parts}
-use Rattle.std.proofs.lemmas.List.{take-append-drop, length-take, append-nil, take_at}
+use Rattle.std.proofs.lemmas.List.{take-append-drop, length-take, append-nil, take_at, length-take-le}
 use Rattle.std.specs.Str.{is_utf8}
 use Rattle.wire_base.specs.Head.{kind_of, head_of}
 use Rattle.wire_base.specs.declared.token.HeadStep.{HeadStep}
@@ -20,16 +20,17 @@ use Rattle.wire_base.specs.declared.frame.Origin.TheVariants as origin
 use Rattle.wire_base.specs.declared.frame.Payload.{Payload}
 use Rattle.wire_base.specs.declared.frame.Payload.TheVariants as payload
 use Rattle.wire_base.specs.declared.frame.Frame.{Frame}
-use Rattle.frame_text.specs.declared.fault.Fault.{Fault}
-use Rattle.frame_text.specs.declared.fault.Fault.TheVariants.{Ends, Breaks}
+use Rattle.wire_base.specs.declared.reading.Fault.{Fault}
+use Rattle.wire_base.specs.declared.reading.Fault.TheVariants.{Ends, Breaks}
 use Rattle.frame_text.specs.Codec.{is_packed, elements}
 use Rattle.frame_text.specs.Frames.{code_number}
 use Rattle.frame_text.specs.Front.{Whole}
 use Rattle.wire_base.specs.ControlCode.{code_of}
-use Rattle.frame_text.specs.Reading.{Reading, Reader, follow, ◌>>=◌, done, Sort, a_number, a_str, a_bin, an_array, number_in, str_in, bin_in, array_in, unfinished, allowed, headed, head_at, token_at, inside, inner_at, code_in, id_in, origin_in, count_in, last_in, only, name_of, name_at, optional_at, offer_at, accepted_at, processed_at, spoiled, ended, carried, placed, run_of, payload_at, content_at, origin_at, packed_at, front_of, front}
+use Rattle.frame_text.specs.Reading.{Reading, Reader, follow, ◌>>=◌, done, Sort, a_number, a_str, a_bin, an_array, number_in, str_in, bin_in, array_in, unfinished, allowed, headed, head_at, token_at, inside, inner_at, code_in, id_in, origin_in, count_in, last_in, only, name_of, name_at, optional_at, offer_at, accepted_at, processed_at, spoiled, ended, carried, placed, run_of, payload_at, content_at, origin_at, packed_at, front}
+use Rattle.wire_base.specs.Front.{front_of}
 use Rattle.frame_text.specs.Spelling.{IsHead, IsOptional, with_optional, IsName, IsOffer, IsAcceptance, IsAcknowledgement, Carries, IsSource, IsElement, PackedFrameIs, FrameIs}
-use Rattle.frame_text.proofs.Heads.{head-front}
-use Rattle.frame_text.proofs.Within.{tested}
+use Rattle.wire_base.proofs.HeadLemmas.{head_within, head_front}
+use Rattle.wire_base.proofs.TokenWithin.{tested}
 
 -- ---- steps that did not fail
 
@@ -86,12 +87,13 @@ headed-found : {A : Type 0} (sort : Sort A) (reason : Reason) (s : HeadStep) (by
 headed-found sort reason step.Short bytes x rest h e = absurd (unfinished-found sort reason bytes (x, rest) e)
 headed-found sort reason (step.Refused r) bytes x rest h e = absurd cc
 headed-found sort reason (step.Got t n) bytes x rest h e =
-    let f = head-front bytes t n h in
+    let within = head_within bytes t n h in
+    let len : length (take n bytes) ≡ n = length-take-le n bytes within.1 in
     let a = allowed-found (length bytes) reason (sort.says t) (drop n bytes) x rest e in
     record {
       head = t;
       text = take n bytes;
-      is_head = rw f.len f.same;
+      is_head = rw len (head_front bytes t n h);
       says = a.says;
       parts = sym (take-append-drop n bytes) ∙ ap (λ (s : List ℕ). take n bytes ++ s) a.after_is;
     }

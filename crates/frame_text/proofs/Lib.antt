@@ -1,4 +1,3 @@
-pub mod Heads
 pub mod Within
 pub mod Steady
 pub mod Again

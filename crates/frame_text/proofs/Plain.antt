@@ -16,30 +16,20 @@ use Rattle.wire_base.specs.declared.frame.Origin.TheVariants as origin
 use Rattle.wire_base.specs.declared.frame.Payload.{Payload}
 use Rattle.wire_base.specs.declared.frame.Payload.TheVariants as payload
 use Rattle.wire_base.specs.declared.frame.Frame.{Frame}
-use Rattle.frame_text.specs.declared.fault.Fault.TheVariants.{Ends, Breaks}
+use Rattle.wire_base.specs.declared.reading.Fault.TheVariants.{Ends, Breaks}
 use Rattle.frame_text.specs.Frames.{code_number, plain_payload, fits_code, fits_id, fits_origin, fits_length, fits, text}
 use Rattle.frame_text.specs.Front.{Whole}
 use Rattle.wire_base.specs.ControlCode.{code_of}
-use Rattle.frame_text.specs.Reading.{Reading, Reader, ◌>>=◌, follow, done, allowed, field_at, plain_of, plain_code, plain_id, bytes_at, plain_carried, placed, plain_content_at, plain_at, front_of, front}
+use Rattle.frame_text.specs.Reading.{Reading, Reader, ◌>>=◌, follow, done, allowed, field_at, plain_of, plain_code, plain_id, bytes_at, plain_carried, placed, plain_content_at, plain_at, front}
+use Rattle.wire_base.specs.Front.{front_of}
+use Rattle.wire_base.proofs.TokenAgain.{field-again, bytes-again}
 use Rattle.frame_text.specs.Spelling.{AreBytes, CarriesPlain, PlainFrameIs}
-use Rattle.frame_text.proofs.Within.{tested}
+use Rattle.wire_base.proofs.TokenWithin.{tested}
 use Rattle.frame_text.proofs.Again.{front_of-again}
 use Rattle.frame_text.proofs.Found.{followed, read_as, pair_is, some_is, allowed-found, code_of-found, placed-found, whole, whole_is, whole_frame}
 use Rattle.frame_text.proofs.Shortest.{bytes_left, bytes_right, below-2, below-4}
 
 -- ---- what is spelled is read
-
-pub field-again : {B : Type 0} (w : Width) (make : ℕ → Option B) (reason : Reason) (y : B) (b rest : List ℕ) → length b ≡ byte_len w → make (from_be_bytes w b) ≡ Some y → field_at w make reason (b ++ rest) ≡ Ok (y, rest)
-unfolding field_at
-field-again w make reason y b rest len makes =
-    let long : ltb (length (b ++ rest)) (byte_len w) ≡ false = le-ltb (length (b ++ rest)) (byte_len w) (omega (arith, length-append b rest, len)) in
-    rw (long, take_at b rest (byte_len w) len, drop_at b rest (byte_len w) len, makes) refl
-
-pub bytes-again : (bytes rest : List ℕ) → bytes_at (length bytes) (bytes ++ rest) ≡ Ok (bytes, rest)
-unfolding bytes_at
-bytes-again bytes rest =
-    let long : ltb (length (bytes ++ rest)) (length bytes) ≡ false = le-ltb (length (bytes ++ rest)) (length bytes) (omega (arith, length-append bytes rest)) in
-    rw (long, take_at bytes rest (length bytes) refl, drop_at bytes rest (length bytes) refl) refl
 
 code-again : (c : Code) (p : Payload) (bytes : List ℕ) → CarriesPlain c p bytes → plain_code (code_number c) ≡ Some c
 code-again code.Offer p bytes is = refl

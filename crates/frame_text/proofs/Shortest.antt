@@ -26,8 +26,8 @@ use Rattle.frame_text.specs.Frames.{code_number, origin_text, str_text, payload_
 use Rattle.frame_text.specs.Front.{Whole}
 use Rattle.frame_text.specs.Reading.{front}
 use Rattle.frame_text.specs.Spelling.{AreBytes, IsHead, IsNumber, IsOptional, with_optional, IsOffer, Carries, IsSource, IsElement, PackedFrameIs, FrameIs}
-use Rattle.frame_text.proofs.Heads.{head-size}
-use Rattle.frame_text.proofs.Within.{tested}
+use Rattle.wire_base.proofs.HeadLemmas.{head_within}
+use Rattle.wire_base.proofs.TokenWithin.{tested}
 use Rattle.frame_text.proofs.Found.{front_spelled}
 use Rattle.frame_text.proofs.Texts.{optional_text, offer-text, accepted-text, text_with}
 
@@ -271,31 +271,31 @@ offer-shortest name window bytes h is =
     let first : AreBytes (is.is_name.head ++ name) = subst AreBytes is.is_name.parts (bytes_left is.first is.second tail) in
     let a = str-shortest (length name) is.is_name.head (bytes_left is.is_name.head name first) is.is_name.is_head in
     let b = optional-shortest window is.second (bytes_right is.first is.second tail) is.is_window in
-    let c = head-size is.array (token.Array (with_optional 1 window)) (length is.array) is.is_array in
+    let c = head_within is.array (token.Array (with_optional 1 window)) (length is.array) is.is_array in
     let d : length (payload_text (payload.Offer name window)) ≡ 1 + (length (str_head (length name)) + length name + length (optional_text window)) =
     ap length (offer-text name window) ∙ one_head window (str_text name ++ optional_text window) ∙ ap (λ k. 1 + k) (length-append (str_text name) (optional_text window) ∙ ap (λ k. k + length (optional_text window)) (length-append (str_head (length name)) name)) in
     let e : length bytes ≡ length is.array + (length is.is_name.head + length name + length is.second) =
     ap length is.parts ∙ length-append is.array (is.first ++ is.second) ∙ ap (λ k. length is.array + k) (length-append is.first is.second ∙ ap (λ k. k + length is.second) (ap length is.is_name.parts ∙ length-append is.is_name.head name)) in
-    omega (arith, a, b, c.some, d, e)
+    omega (arith, a, b, c.0, d, e)
 
 pub carries-shortest : (c : Code) (p : Payload) (bytes : List ℕ) → AreBytes bytes → Carries c p bytes → length (payload_text p) ≤ length bytes
 carries-shortest code.Offer (payload.Offer name window) bytes h is = offer-shortest name window bytes h is
 carries-shortest code.OfferAccepted (payload.Accepted window) bytes h is =
     let all : AreBytes (is.array ++ is.first) = subst AreBytes is.parts h in
     let b = optional-shortest window is.first (bytes_right is.array is.first all) is.is_window in
-    let c = head-size is.array (token.Array (with_optional 0 window)) (length is.array) is.is_array in
+    let c = head_within is.array (token.Array (with_optional 0 window)) (length is.array) is.is_array in
     let d : length (payload_text (payload.Accepted window)) ≡ 1 + length (optional_text window) = ap length (accepted-text window) ∙ no_head window (optional_text window) in
     let e : length bytes ≡ length is.array + length is.first = ap length is.parts ∙ length-append is.array is.first in
-    omega (arith, b, c.some, d, e)
+    omega (arith, b, c.0, d, e)
 carries-shortest code.Content (payload.Content content) bytes h is = omega (arith, ap length is)
 carries-shortest code.ContentWritingCompleted payload.Nothing bytes h is = omega arith
 carries-shortest code.ChannelTerminated payload.Nothing bytes h is = omega arith
 carries-shortest code.ContentProcessed (payload.Processed count) bytes h is =
     let all : AreBytes (is.array ++ is.first) = subst AreBytes is.parts h in
     let b = optional-shortest (Some count) is.first (bytes_right is.array is.first all) is.is_count in
-    let c = head-size is.array (token.Array 1) (length is.array) is.is_array in
+    let c = head_within is.array (token.Array 1) (length is.array) is.is_array in
     let e : length bytes ≡ length is.array + length is.first = ap length is.parts ∙ length-append is.array is.first in
-    omega (arith, b, c.some, e)
+    omega (arith, b, c.0, e)
 carries-shortest c p bytes h is = absurd is
 
 -- ---- what is spelled fits
@@ -463,8 +463,8 @@ element-text true (x ∷ few) bytes b is h le =
 source-text : (v : Version) (o : Origin) (b : List ℕ) → IsSource v o b → length (origin_text o) ≤ length b
 source-text version.One origin.ByParity b is = omega arith
 source-text version.Two origin.ByParity b is = omega arith
-source-text version.Three origin.Sender b is = let p = head-size b (token.Whole (pos 1)) (length b) is in omega (arith, p.some)
-source-text version.Three origin.Receiver b is = let p = head-size b (token.Whole (negsuc 0)) (length b) is in omega (arith, p.some)
+source-text version.Three origin.Sender b is = let p = head_within b (token.Whole (pos 1)) (length b) is in omega (arith, p.0)
+source-text version.Three origin.Receiver b is = let p = head_within b (token.Whole (negsuc 0)) (length b) is in omega (arith, p.0)
 source-text v o b is = absurd is
 
 array-one : (v : Version) (t : Bool) → length (array_head (cond t (elements v) (elements v + 1))) ≡ 1
@@ -488,7 +488,7 @@ packed-shortest : (v : Version) (f : Frame) (b : List ℕ) → AreBytes b → Pa
 packed-shortest v f b h is =
     let parts = frame-bytes v f b is h in
     let short = carries-shortest f.code f.payload is.bytes parts.bytes is.carries in
-    let a = head-size is.array (token.Array (cond is.has_payload (elements v + 1) (elements v))) (length is.array) is.is_array in
+    let a = head_within is.array (token.Array (cond is.has_payload (elements v + 1) (elements v))) (length is.array) is.is_array in
     let c = number-shortest (code_number f.code) is.first parts.first is.is_code in
     let i = number-shortest f.id is.second parts.second is.is_id in
     let o = source-text v f.origin is.third is.is_source in
@@ -498,7 +498,7 @@ packed-shortest v f b h is =
     ∙ length-append is.array (is.first ++ (is.second ++ (is.third ++ is.last)))
     ∙ ap (λ k. length is.array + k) (length-append is.first (is.second ++ (is.third ++ is.last))
     ∙ ap (λ k. length is.first + k) (length-append is.second (is.third ++ is.last) ∙ ap (λ k. length is.second + k) (length-append is.third is.last))) in
-    omega (arith, a.some, c, i, o, e, len, text_with-len v f (payload_text f.payload))
+    omega (arith, a.0, c, i, o, e, len, text_with-len v f (payload_text f.payload))
 
 pub packed_text-shortest : (v : Version) (f : Frame) (b : List ℕ) → is_packed v ≡ true → AreBytes b → FrameIs v f b → length (text v f) ≤ length b
 packed_text-shortest version.One f b p h is = absurd cc

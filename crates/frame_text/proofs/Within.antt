@@ -18,118 +18,16 @@ use Rattle.wire_base.specs.declared.frame.Origin.TheVariants as origin
 use Rattle.wire_base.specs.declared.frame.Payload.{Payload}
 use Rattle.wire_base.specs.declared.frame.Payload.TheVariants as payload
 use Rattle.wire_base.specs.declared.frame.Frame.{Frame}
-use Rattle.frame_text.specs.declared.fault.Fault.{Fault}
-use Rattle.frame_text.specs.declared.fault.Fault.TheVariants.{Ends, Breaks}
-use Rattle.frame_text.specs.Reading.{Reading, Reader, follow, ◌>>=◌, done, Sort, a_number, a_str, a_bin, an_array, unfinished, allowed, headed, head_at, token_at, inside, inner_at, code_in, id_in, origin_in, count_in, last_in, only, name_of, name_at, optional_at, offer_at, accepted_at, processed_at, spoiled, ended, carried, placed, run_of, payload_at, content_at, origin_at, packed_at, field_at, bytes_at, plain_code, plain_id, plain_carried, plain_content_at, plain_at, frame_at, front_of, front}
+use Rattle.wire_base.specs.declared.reading.Fault.{Fault}
+use Rattle.wire_base.specs.declared.reading.Fault.TheVariants.{Ends, Breaks}
+use Rattle.frame_text.specs.Reading.{Reading, Reader, follow, ◌>>=◌, done, Sort, a_number, a_str, a_bin, an_array, unfinished, allowed, headed, head_at, token_at, inside, inner_at, code_in, id_in, origin_in, count_in, last_in, only, name_of, name_at, optional_at, offer_at, accepted_at, processed_at, spoiled, ended, carried, placed, run_of, payload_at, content_at, origin_at, packed_at, field_at, bytes_at, plain_code, plain_id, plain_carried, plain_content_at, plain_at, frame_at, front}
+use Rattle.wire_base.specs.Front.{front_of}
 use Rattle.frame_text.specs.Front.{Front, Whole, Short, Broken}
 use Rattle.frame_text.specs.Codec.{is_packed, elements}
-use Rattle.frame_text.proofs.Heads.{head-size, byte_len-most}
-
--- which way a test goes
-pub tested : (b : Bool) → (b ≡ true) ⊎ (b ≡ false)
-tested true = inl refl
-tested false = inr refl
-
--- at least so many bytes are taken, and at most so many
-abbrev pub IsWithin : {A : Type 0} → (least most total : ℕ) → Reading A → Type 0
-IsWithin least most total (Ok x) = (length x.1 + least ≤ total) × (total ≤ length x.1 + most)
-IsWithin least most total (Err Ends) = Unit {0}
-IsWithin least most total (Err (Breaks left reason)) = (left ≤ total) × (total ≤ left + most)
-
-pub record Stops {A : Type 0} (least most : ℕ) (read : Reader A) : Type 0 where
-  pub at : (bytes : List ℕ) → IsWithin least most (length bytes) (read bytes)
-
-shifted : {A : Type 0} (least most l m total front : ℕ) (r : Reading A) → front + least ≤ total → total ≤ front + most → IsWithin l m front r → IsWithin (least + l) (most + m) total r
-shifted least most l m total front (Ok x) a b h = (omega (arith, h.0), omega (arith, h.1))
-shifted least most l m total front (Err Ends) a b h = tt
-shifted least most l m total front (Err (Breaks left reason)) a b h = (omega (arith, h.0), omega (arith, h.1))
-
-pub follow-within : {A B : Type 0} (least most l m total : ℕ) (r : Reading A) (next : A → Reader B) → IsWithin least most total r → ((x : A) → Stops l m (next x)) → IsWithin (least + l) (most + m) total (follow r next)
-follow-within least most l m total (Ok x) next h n = shifted least most l m total (length x.1) (next x.0 x.1) h.0 h.1 ((n x.0).at x.1)
-follow-within least most l m total (Err Ends) next h n = tt
-follow-within least most l m total (Err (Breaks left reason)) next h n = (h.0, omega (arith, h.1))
-
-pub stops-then : {A B : Type 0} (least most l m : ℕ) (read : Reader A) (next : A → Reader B) → Stops least most read → ((x : A) → Stops l m (next x)) → Stops (least + l) (most + m) (read >>= next)
-stops-then least most l m read next h n = record { at = λ bytes. follow-within least most l m (length bytes) (read bytes) next (h.at bytes) n }
-
-pub stops-done : {A : Type 0} (x : A) → Stops 0 0 (done x)
-stops-done x = record { at = λ bytes. (omega arith, omega arith) }
-
-module _ {A : Type 0} (sort : Sort A) (reason : Reason) where
-  unfinished-within : (bytes : List ℕ) → IsWithin {A = A} 1 17 (length bytes) (unfinished sort reason bytes)
-  unfinished-within [] = tt
-  unfinished-within (b ∷ rest) = elim (sort.begins (kind_of b)) as (λ t. IsWithin {A = A} 1 17 (length (b ∷ rest)) (cond t (Err Ends) (Err (Breaks (length (b ∷ rest)) reason)))) [ true ↦ tt | false ↦ (omega arith, omega arith) ]
-
-  headed-within : (s : HeadStep) (bytes : List ℕ) → head_of bytes ≡ s → IsWithin 1 17 (length bytes) (headed sort reason s bytes)
-  headed-within step.Short bytes e = unfinished-within bytes
-  headed-within (step.Refused r) bytes e = (omega arith, omega arith)
-  headed-within (step.Got h n) bytes e =
-      let z = head-size bytes h n e in
-      elim (sort.says h) as (λ o. IsWithin 1 17 (length bytes) (allowed (length bytes) reason o (drop n bytes))) [
-        | None ↦ (omega arith, omega arith)
-        | Some x ↦ (omega (arith, z.some, z.within, length-drop n bytes), omega (arith, z.most, length-drop n bytes))
-      ]
-
-  pub head_at-stops : Stops 1 17 (head_at sort reason)
-  unfolding head_at
-  head_at-stops = record { at = λ bytes. headed-within (head_of bytes) bytes refl }
-
-pub allowed-within : {A B : Type 0} (make : A → Option B) (reason : Reason) (total : ℕ) (r : Reading A) → IsWithin 1 17 total r → IsWithin 1 17 total (follow r (λ x. allowed total reason (make x)))
-allowed-within {A} {B} make reason total (Ok x) h = elim (make x.0) as (λ o. IsWithin 1 17 total (allowed total reason o x.1)) [ None ↦ (omega arith, omega arith) | Some y ↦ h ]
-allowed-within make reason total (Err Ends) h = tt
-allowed-within make reason total (Err (Breaks left r)) h = h
-
-inside-within : {A : Type 0} (reason : Reason) (total : ℕ) (r : Reading A) → IsWithin 1 17 total r → IsWithin 1 17 total (inside total reason r)
-inside-within reason total (Ok x) h = h
-inside-within reason total (Err Ends) h = (omega arith, omega arith)
-inside-within reason total (Err (Breaks left r)) h = h
-
-module _ {A B : Type 0} (sort : Sort A) (make : A → Option B) (reason : Reason) where
-  pub token_at-stops : Stops 1 17 (token_at sort make reason)
-  unfolding token_at
-  token_at-stops = record { at = λ bytes. allowed-within make reason (length bytes) (head_at sort reason bytes) ((head_at-stops sort reason).at bytes) }
-
-  pub inner_at-stops : Stops 1 17 (inner_at sort make reason)
-  unfolding inner_at
-  inner_at-stops = record { at = λ bytes. inside-within reason (length bytes) (token_at sort make reason bytes) (token_at-stops.at bytes) }
+use Rattle.wire_base.proofs.TokenWithin.{tested, IsWithin, Stops, follow-within, stops-then, stops-done, head_at-stops, allowed-within, token_at-stops, inner_at-stops, IsBelow, Ends-below, below-stops, lower, below-then, below-done, inner_at-below, field_at-stops, field_at-below, IsCut, bytes_at-is, IsProper, proper-from, proper-lower, proper-follow}
+use Rattle.wire_base.proofs.Fronts.{IsFrontWithin, front_of-within}
 
 -- ---- payloads
-
--- nothing is read past the end
-abbrev pub IsBelow : {A : Type 0} → ℕ → Reading A → Type 0
-IsBelow total (Ok x) = length x.1 ≤ total
-IsBelow total (Err Ends) = Unit {0}
-IsBelow total (Err (Breaks left reason)) = left ≤ total
-
-pub record Ends-below {A : Type 0} (read : Reader A) : Type 0 where
-  pub at : (bytes : List ℕ) → IsBelow (length bytes) (read bytes)
-
-below-from : {A : Type 0} (least most total : ℕ) (r : Reading A) → IsWithin least most total r → IsBelow total r
-below-from least most total (Ok x) h = omega (arith, h.0)
-below-from least most total (Err Ends) h = tt
-below-from least most total (Err (Breaks left reason)) h = h.0
-
-pub below-stops : {A : Type 0} (least most : ℕ) (read : Reader A) → Stops least most read → Ends-below read
-below-stops least most read h = record { at = λ bytes. below-from least most (length bytes) (read bytes) (h.at bytes) }
-
-lower : {A : Type 0} (front total : ℕ) (r : Reading A) → front ≤ total → IsBelow front r → IsBelow total r
-lower front total (Ok x) a h = omega (arith, h)
-lower front total (Err Ends) a h = tt
-lower front total (Err (Breaks left reason)) a h = omega (arith, h)
-
-follow-below : {A B : Type 0} (total : ℕ) (r : Reading A) (next : A → Reader B) → IsBelow total r → ((x : A) → Ends-below (next x)) → IsBelow total (follow r next)
-follow-below total (Ok x) next h n = lower (length x.1) total (next x.0 x.1) h ((n x.0).at x.1)
-follow-below total (Err Ends) next h n = tt
-follow-below total (Err (Breaks left reason)) next h n = h
-
-pub below-then : {A B : Type 0} (read : Reader A) (next : A → Reader B) → Ends-below read → ((x : A) → Ends-below (next x)) → Ends-below (read >>= next)
-below-then read next h n = record { at = λ bytes. follow-below (length bytes) (read bytes) next (h.at bytes) n }
-
-below-done : {A : Type 0} (x : A) → Ends-below (done x)
-below-done x = record { at = λ bytes. omega arith }
-
-inner_at-below : {A B : Type 0} (sort : Sort A) (make : A → Option B) (reason : Reason) → Ends-below (inner_at sort make reason)
-inner_at-below sort make reason = below-stops 1 17 (inner_at sort make reason) (inner_at-stops sort make reason)
 
 -- a fault of a token that began there, or what a reader made of the bytes after its head
 name_of-below : (total n : ℕ) (rest : List ℕ) → length rest ≤ total → IsBelow total (name_of total n rest)
@@ -275,37 +173,6 @@ packed_at-stops v =
 
 -- ---- frames of version 1
 
-field_at-within : {B : Type 0} (w : Width) (make : ℕ → Option B) (reason : Reason) (bytes : List ℕ) → 0 < byte_len w → IsWithin 1 17 (length bytes) (field_at w make reason bytes)
-unfolding field_at
-field_at-within {B} w make reason bytes some =
-    let value = make (from_be_bytes w (take (byte_len w) bytes)) in
-    elim (tested (ltb (length bytes) (byte_len w))) [
-      | inl e ↦ rw e tt
-      | inr e ↦
-          let long : byte_len w ≤ length bytes = ltb-false (length bytes) (byte_len w) e in
-          rw e (elim value as (λ o. IsWithin 1 17 (length bytes) (allowed (length bytes) reason o (drop (byte_len w) bytes))) [
-            | None ↦ (omega arith, omega arith)
-            | Some x ↦ (omega (arith, length-drop (byte_len w) bytes), omega (arith, length-drop (byte_len w) bytes, byte_len-most w))
-          ])
-    ]
-
-pub field_at-stops : {B : Type 0} (w : Width) (make : ℕ → Option B) (reason : Reason) → 0 < byte_len w → Stops 1 17 (field_at w make reason)
-field_at-stops w make reason some = record { at = λ bytes. field_at-within w make reason bytes some }
-
--- what was taken and what is left are what there was
-abbrev pub IsCut : (total : ℕ) → Reading (List ℕ) → Type 0
-IsCut total (Ok x) = length x.0 + length x.1 ≡ total
-IsCut total (Err Ends) = Unit {0}
-IsCut total (Err (Breaks left reason)) = ⊥
-
-pub bytes_at-is : (n : ℕ) (bytes : List ℕ) → IsCut (length bytes) (bytes_at n bytes)
-unfolding bytes_at
-bytes_at-is n bytes =
-    elim (tested (ltb (length bytes) n)) [
-      | inl e ↦ rw e tt
-      | inr e ↦ let long : n ≤ length bytes = ltb-false (length bytes) n e in rw e (omega (arith, length-take n bytes, length-drop n bytes))
-    ]
-
 placed-below : {A : Type 0} (total : ℕ) (front rest : List ℕ) (r : Result A Fault) → length front + length rest ≡ total → IsAmong (length front) r → IsBelow total (placed r rest)
 placed-below total front rest (Ok x) a h = omega arith
 placed-below total front rest (Err Ends) a h = tt
@@ -321,30 +188,6 @@ unfolding plain_content_at
 plain_content_at-below c size = record { at = λ bytes. cut-below (length bytes) (bytes_at size bytes) (plain_carried c) (plain_carried-among c) (bytes_at-is size bytes) }
 
 -- ---- a frame
-
--- a frame takes a byte at least, and a fault is among the bytes
-abbrev pub IsProper : {A : Type 0} → ℕ → Reading A → Type 0
-IsProper total (Ok x) = length x.1 < total
-IsProper total (Err Ends) = Unit {0}
-IsProper total (Err (Breaks left reason)) = left ≤ total
-
-proper-from : {A : Type 0} (least most total : ℕ) (r : Reading A) → 0 < least → IsWithin least most total r → IsProper total r
-proper-from least most total (Ok x) some h = omega (arith, h.0)
-proper-from least most total (Err Ends) some h = tt
-proper-from least most total (Err (Breaks left reason)) some h = h.0
-
-proper-lower : {A : Type 0} (front total : ℕ) (r : Reading A) → front < total → IsBelow front r → IsProper total r
-proper-lower front total (Ok x) a h = omega (arith, h)
-proper-lower front total (Err Ends) a h = tt
-proper-lower front total (Err (Breaks left reason)) a h = omega (arith, h)
-
-proper-follow : {A B : Type 0} (total : ℕ) (r : Reading A) (next : A → Reader B) → IsWithin 1 17 total r → ((x : A) → Ends-below (next x)) → IsProper total (follow r next)
-proper-follow total (Ok x) next h n = proper-lower (length x.1) total (next x.0 x.1) (omega (arith, h.0)) ((n x.0).at x.1)
-proper-follow total (Err Ends) next h n = tt
-proper-follow total (Err (Breaks left reason)) next h n = h.0
-
-pub field_at-below : {B : Type 0} (w : Width) (make : ℕ → Option B) (reason : Reason) → 0 < byte_len w → Ends-below (field_at w make reason)
-field_at-below w make reason some = below-stops 1 17 (field_at w make reason) (field_at-stops w make reason some)
 
 plain_at-proper : (bytes : List ℕ) → IsProper (length bytes) (plain_at bytes)
 unfolding plain_at
@@ -365,17 +208,7 @@ frame_at-proper version.Three bytes = packed_at-proper version.Three bytes
 
 -- ---- the front
 
-abbrev IsFrontWithin : ℕ → Front → Type 0
-IsFrontWithin total (Whole frame size) = (0 < size) × (size ≤ total)
-IsFrontWithin total Short = Unit {0}
-IsFrontWithin total (Broken offset reason) = offset ≤ total
-
-front_of-within : (total : ℕ) (r : Reading Frame) → IsProper total r → IsFrontWithin total (front_of total r)
-front_of-within total (Ok x) h = (omega (arith, h), omega arith)
-front_of-within total (Err Ends) h = tt
-front_of-within total (Err (Breaks left reason)) h = omega arith
-
-is_front-within : (v : Version) (bytes : List ℕ) → IsFrontWithin (length bytes) (front v bytes)
+pub is_front-within : (v : Version) (bytes : List ℕ) → IsFrontWithin (length bytes) (front v bytes)
 unfolding front
 is_front-within v bytes = front_of-within (length bytes) (frame_at v bytes) (frame_at-proper v bytes)
 

@@ -12,6 +12,7 @@ use Rattle.wire_base.specs.declared.frame.Origin.TheVariants as origin
 use Rattle.wire_base.specs.declared.frame.Payload.{Payload}
 use Rattle.wire_base.specs.declared.frame.Payload.TheVariants as payload
 use Rattle.wire_base.specs.declared.frame.Frame.{Frame}
+use Rattle.wire_base.specs.declared.limits.TheConstants.{COUNT_LIMIT, MAX_PAYLOAD, MAX_PLAIN_PAYLOAD, PLAIN_ID_LIMIT}
 pub use Rattle.wire_base.specs.ControlCode.{code_number}
 use Rattle.wire_base.specs.Shortest.{unsigned_text, str_head, bin_head, array_head}
 
@@ -69,7 +70,7 @@ texts v frames = flat_map (text v) frames
 -- a window or a count: 0 to 2^63 - 1
 abbrev pub is_count : Option ℕ → Bool
 is_count None = true
-is_count (Some n) = nat_lt n 0x8000000000000000
+is_count (Some n) = nat_lt n COUNT_LIMIT
 
 -- a payload that a frame of this code may have
 abbrev pub fits_code : Version → Code → Payload → Bool
@@ -85,8 +86,8 @@ fits_code v code.ContentProcessed (payload.Processed count) = is_count (Some cou
 fits_code v c p = false
 
 abbrev pub fits_id : Version → ℕ → Bool
-fits_id version.One id = nat_lt 0 id && nat_lt id 0x100000000
-fits_id v id = nat_lt 0 id && nat_lt id 0x8000000000000000
+fits_id version.One id = nat_lt 0 id && nat_lt id PLAIN_ID_LIMIT
+fits_id v id = nat_lt 0 id && nat_lt id COUNT_LIMIT
 
 abbrev pub fits_origin : Version → Origin → Bool
 fits_origin version.Three origin.ByParity = false
@@ -95,8 +96,8 @@ fits_origin v origin.ByParity = true
 fits_origin v o = false
 
 abbrev pub fits_length : Version → Payload → Bool
-fits_length version.One p = nat_le (length (plain_payload p)) 0xffff
-fits_length v p = nat_le (length (payload_text p)) 0x100000
+fits_length version.One p = nat_le (length (plain_payload p)) MAX_PLAIN_PAYLOAD
+fits_length v p = nat_le (length (payload_text p)) MAX_PAYLOAD
 
 -- whether a frame has a spelling
 abbrev pub fits : Version → Frame → Bool

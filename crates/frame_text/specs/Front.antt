@@ -1,10 +1,8 @@
--- What stands at the front of some bytes.
-use Rattle.std.specs.Prelude.{ℕ}
+-- What stands at the front of the bytes of a stream of frames.
 use Rattle.wire_base.specs.declared.frame.Frame.{Frame}
-use Rattle.wire_base.specs.declared.reason.Reason.{Reason}
+use Rattle.wire_base.specs.Front as fronts
+pub use Rattle.wire_base.specs.Front.{Whole, Short, Broken}
 
--- a whole frame and its length, the beginning of one, or a token that breaks a rule, by its offset
-pub data Front : Type 0 where
-  Whole : (frame : Frame) → (size : ℕ) → Front
-  Short : Front
-  Broken : (offset : ℕ) → (reason : Reason) → Front
+-- a whole frame and its length, too few bytes to tell, or a token that breaks a rule, by its offset
+abbrev pub Front : Type 0
+Front = fronts.Front Frame

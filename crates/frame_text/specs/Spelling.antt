@@ -2,7 +2,8 @@
 use Rattle.std.specs.Prelude.{◌≡◌, ℕ, ◌+◌, ◌<◌, ◌≤◌, List, [], ◌∷◌, ◌++◌, length, ℤ, pos, negsuc, Bool, true, false, if◌then◌else◌, Option, Some, None, slice_index}
 use Rattle.std.specs.Int.{w16, w32, from_be_bytes}
 use Rattle.std.specs.Str.{is_utf8}
-use Rattle.wire_base.specs.Head.{head_of}
+use Rattle.wire_base.specs.declared.limits.TheConstants.{COUNT_LIMIT, MAX_PAYLOAD}
+pub use Rattle.wire_base.specs.Head.{IsHead}
 use Rattle.wire_base.specs.declared.token.TokenHead.{TokenHead}
 use Rattle.wire_base.specs.declared.token.TokenHead.TheVariants as token
 use Rattle.wire_base.specs.declared.token.HeadStep.TheVariants as step
@@ -25,10 +26,6 @@ use Rattle.frame_text.specs.Reading.{front}
 abbrev pub AreBytes : List ℕ → Type 0
 AreBytes bytes = (i : ℕ) → slice_index bytes i < 256
 
--- these bytes, all of them, are a head that says this
-abbrev pub IsHead : TokenHead → List ℕ → Type 0
-IsHead h b = head_of b ≡ step.Got h (length b)
-
 -- a whole number as a token
 abbrev pub IsNumber : ℤ → List ℕ → Type 0
 IsNumber z b = IsHead (token.Whole z) b
@@ -36,7 +33,7 @@ IsNumber z b = IsHead (token.Whole z) b
 -- a window or a count as a token, where there is one
 abbrev pub IsOptional : Option ℕ → List ℕ → Type 0
 IsOptional None b = b ≡ []
-IsOptional (Some n) b = IsNumber (pos n) b × (n < 0x8000000000000000)
+IsOptional (Some n) b = IsNumber (pos n) b × (n < COUNT_LIMIT)
 
 -- how many elements an array has with what may be left out of it
 abbrev pub with_optional : ℕ → Option ℕ → ℕ
@@ -94,11 +91,11 @@ IsSource version.Three origin.ByParity b = ⊥
 IsSource v origin.ByParity b = b ≡ []
 IsSource v o b = ⊥
 
--- bytes as a bin of at most 1,048,576 bytes
+-- bytes as a bin, of no more than a payload may have
 pub record IsBin (bytes b : List ℕ) : Type 0 where
   pub head : List ℕ
   pub is_head : IsHead (token.Bin (length bytes)) head
-  pub most : length bytes ≤ 0x100000
+  pub most : length bytes ≤ MAX_PAYLOAD
   pub parts : b ≡ head ++ bytes
 
 -- a payload's bytes as the last element, which may be left out where there are none
@@ -119,7 +116,7 @@ pub record PackedFrameIs (v : Version) (f : Frame) (b : List ℕ) : Type 0 where
   pub is_code : IsNumber (pos (code_number f.code)) first
   pub is_id : IsNumber (pos f.id) second
   pub some_id : 0 < f.id
-  pub id_below : f.id < 0x8000000000000000
+  pub id_below : f.id < COUNT_LIMIT
   pub is_source : IsSource v f.origin third
   pub is_payload : IsElement has_payload bytes last
   pub carries : Carries f.code f.payload bytes

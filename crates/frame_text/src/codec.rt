@@ -3,11 +3,11 @@
 ghost use Rattle.frame_text.specs.Codec.{Decodes};
 ghost use Rattle.frame_text.specs.Frames.{fits, text};
 ghost use Rattle.frame_text.specs.Reading.{front};
-ghost use Rattle.std.specs.Prelude.{◌≡◌, ◌≤◌, ◌^◌, ◌++◌, true, OnOk, OnErr};
+ghost use Rattle.std.specs.Prelude.{◌≡◌, ◌≤◌, ◌++◌, true, OnOk, OnErr};
 ghost use Rattle.wire_base.specs.declared.frame.Version.{Version};
 
 use std::alloc::Global;
-use wire_base::{Frame, FrameStep, OutOfMemory, Place};
+use wire_base::{Frame, FrameStep, MAX_PLACE, OutOfMemory, Place};
 
 /// Reads and writes frames of one version.
 pub trait FrameCodec {
@@ -16,7 +16,7 @@ pub trait FrameCodec {
 
     /// The frame at the front of the bytes, whose first byte stands at this place.
     fn decode(&self, alloc: Global, bytes: &[u8], at: Place) -> FrameStep
-        requires { at.0 ≤ 2 ^ 63 }
+        requires { at.0 ≤ MAX_PLACE }
         ensures { Decodes result bytes.now at (front (version self.now) bytes.now) };
 
     /// Whether the frame has a spelling.

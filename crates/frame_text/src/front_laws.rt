@@ -10,6 +10,8 @@ ghost use Rattle.wire_base.specs.declared.frame.Frame.{Frame};
 ghost use Rattle.wire_base.specs.declared.frame.Version.{Version};
 ghost use Rattle.wire_base.specs.declared.reason.Reason.{Reason};
 
+use wire_base::FRAME_BOUND;
+
 /// A frame takes a byte at least, and stands within the bytes; so does what breaks a rule.
 #[tactic(auto, using(crate::proofs::Laws::withins))]
 pub fn front_stands_within()
@@ -18,12 +20,12 @@ pub fn front_stands_within()
     ensures broken_within { (v : Version) (bytes : List ℕ) (offset : ℕ) (reason : Reason) →
         front v bytes ≡ Broken offset reason → offset ≤ length bytes }
     ensures front_near { (v : Version) (bytes : List ℕ) (f : Frame) (size : ℕ) → is_packed v ≡ true →
-        front v bytes ≡ Whole f size → size ≤ 0x100055 }
+        front v bytes ≡ Whole f size → size ≤ FRAME_BOUND }
     ensures broken_near { (v : Version) (bytes : List ℕ) (offset : ℕ) (reason : Reason) → is_packed v ≡ true →
-        front v bytes ≡ Broken offset reason → offset ≤ 0x100055 }
+        front v bytes ≡ Broken offset reason → offset ≤ FRAME_BOUND }
 {}
 
-/// What stands at the front stays so, whatever follows. Less than a whole frame is the beginning of one.
+/// What stands at the front stays so, whatever follows. Of less than a whole frame there are too few bytes to tell.
 #[tactic(auto, using(crate::proofs::Laws::stays))]
 pub fn front_is_steady()
     ensures front_stays { (v : Version) (bytes more : List ℕ) (f : Frame) (size : ℕ) →

@@ -2,9 +2,7 @@
 #![tactic(auto)]
 
 mod codec;
-mod fault;
 mod front_laws;
 
 pub use codec::FrameCodec;
-pub use fault::{DecodeError, Fault};
 pub use front_laws::{front_has_text, front_is_spelled, front_is_steady, front_stands_within};

@@ -5,10 +5,11 @@ use Rattle.std.proofs.lemmas.List.{length-take}
 use Rattle.wire_base.specs.declared.reason.Reason.{Reason}
 use Rattle.wire_base.specs.declared.frame.Code.{Code}
 use Rattle.wire_base.specs.declared.frame.Payload.{Payload}
-use Rattle.frame_text.specs.declared.fault.Fault.{Fault}
-use Rattle.frame_text.specs.declared.fault.Fault.TheVariants.{Breaks}
+use Rattle.wire_base.specs.declared.reading.Fault.{Fault}
+use Rattle.wire_base.specs.declared.reading.Fault.TheVariants.{Breaks}
 use Rattle.frame_text.specs.Reading.{Reading, bytes_at, plain_carried}
-use Rattle.frame_text.proofs.Within.{IsAmong, plain_carried-among, tested}
+use Rattle.wire_base.proofs.TokenWithin.{tested}
+use Rattle.frame_text.proofs.Within.{IsAmong, plain_carried-among}
 
 -- what was taken and what is left are no more than there was
 abbrev IsCut : (total : ℕ) → Reading (List ℕ) → Type 0

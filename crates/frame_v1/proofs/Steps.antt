@@ -3,9 +3,10 @@ use Rattle.std.proofs.Common.{◌≡◌, ℕ, ◌≤◌, ◌<◌, List, length, 
 use Rattle.wire_base.specs.declared.reason.Reason.{Reason}
 use Rattle.wire_base.specs.declared.frame.Version.TheVariants as version
 use Rattle.wire_base.specs.declared.frame.Frame.{Frame}
-use Rattle.frame_text.specs.declared.fault.Fault.TheVariants.{Breaks}
+use Rattle.wire_base.specs.declared.reading.Fault.TheVariants.{Breaks}
 use Rattle.frame_text.specs.Reading.{Reading, plain_at}
-use Rattle.frame_text.proofs.Within.{IsProper, frame_at-proper}
+use Rattle.wire_base.proofs.TokenWithin.{IsProper}
+use Rattle.frame_text.proofs.Within.{frame_at-proper}
 
 pub plain-shorter : (bytes : List ℕ) (f : Frame) (rest : List ℕ) → plain_at bytes ≡ Ok (f, rest) → length rest < length bytes
 plain-shorter bytes f rest e = subst (λ (r : Reading Frame). IsProper (length bytes) r) e (frame_at-proper version.One bytes)

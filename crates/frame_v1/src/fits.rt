@@ -4,10 +4,7 @@ ghost use Rattle.frame_text.specs.Frames.{fits, fits_code, fits_id, fits_origin}
 ghost use Rattle.std.specs.Prelude.{◌≡◌};
 
 use crate::writing::payload_bytes;
-use wire_base::{Code, Frame, Origin, Payload, Version};
-
-/// A payload has at most so many bytes.
-const MAX_PAYLOAD: usize = 0xffff;
+use wire_base::{Code, Frame, MAX_PLAIN_PAYLOAD, Origin, PLAIN_ID_LIMIT, Payload, Version};
 
 #[tactic(auto, using(crate::proofs::Names::names))]
 fn fits_code(code: Code, payload: &Payload) -> bool
@@ -31,7 +28,7 @@ fn fits_code(code: Code, payload: &Payload) -> bool
 fn fits_id(id: u64) -> bool
     ensures { result ≡ fits_id Version.One id }
 {
-    0 < id && id < 0x1_0000_0000
+    0 < id && id < PLAIN_ID_LIMIT
 }
 
 fn fits_origin(origin: Origin) -> bool
@@ -47,5 +44,5 @@ pub fn fits(frame: &Frame) -> bool
     fits_code(frame.code, &frame.payload)
         && fits_id(frame.id)
         && fits_origin(frame.origin)
-        && payload_bytes(&frame.payload).len() <= MAX_PAYLOAD
+        && payload_bytes(&frame.payload).len() <= MAX_PLAIN_PAYLOAD as usize
 }

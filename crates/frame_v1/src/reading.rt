@@ -3,22 +3,16 @@
 ghost use Rattle.frame_text.specs.Codec.{Decodes};
 ghost use Rattle.frame_text.specs.Reading.{Gives, Says, bytes_at, field_at, front, plain_at, plain_carried, plain_code, plain_content_at, plain_id};
 ghost use Rattle.std.specs.Int.{w8, w16, w32};
-ghost use Rattle.std.specs.Prelude.{◌≡◌, ◌≤◌, ◌^◌, length, Some};
+ghost use Rattle.std.specs.Prelude.{◌≡◌, ◌≤◌, length, Some};
 ghost use Rattle.wire_base.specs.declared.reason.Reason.TheVariants.{BadCode, BadId, BadShape};
 
-use frame_text::{DecodeError, Fault};
 use std::alloc::Global;
 use wire_base::{
-    Blob, Code, Frame, FrameStep, Origin, Payload, Place, Reason, Text, TextFault, Version,
+    Blob, Code, DecodeError, Fault, Frame, FrameStep, MAX_PLACE, Origin, Payload, Place, Reason,
+    Text, TextFault, Version, breaks,
 };
 
-fn breaks(bytes: &[u8], reason: Reason) -> Fault
-    ensures { result ≡ Fault.Breaks (length bytes.now) reason }
-{
-    Fault::Breaks(bytes.len(), reason)
-}
-
-#[tactic(auto, unfolding(frame_text::specs::Reading::field_at))]
+#[tactic(auto, unfolding(wire_base::specs::Tokens::field_at))]
 fn code(bytes: &[u8]) -> Result<(Code, &[u8]), Fault>
     ensures { Says (λ x. (x.0, x.1.now)) result (field_at w8 plain_code BadCode bytes.now) }
 {
@@ -31,7 +25,7 @@ fn code(bytes: &[u8]) -> Result<(Code, &[u8]), Fault>
     }
 }
 
-#[tactic(auto, unfolding(frame_text::specs::Reading::field_at))]
+#[tactic(auto, unfolding(wire_base::specs::Tokens::field_at))]
 fn id(bytes: &[u8]) -> Result<(u32, &[u8]), Fault>
     ensures { Says (λ x. (x.0, x.1.now)) result (field_at w32 plain_id BadId bytes.now) }
 {
@@ -44,7 +38,7 @@ fn id(bytes: &[u8]) -> Result<(u32, &[u8]), Fault>
     }
 }
 
-#[tactic(auto, unfolding(frame_text::specs::Reading::field_at))]
+#[tactic(auto, unfolding(wire_base::specs::Tokens::field_at))]
 fn size(bytes: &[u8]) -> Result<(u16, &[u8]), Fault>
     ensures { Says (λ x. (x.0, x.1.now)) result (field_at w16 (λ n. Some n) BadShape bytes.now) }
 {
@@ -55,7 +49,7 @@ fn size(bytes: &[u8]) -> Result<(u16, &[u8]), Fault>
 }
 
 /// A payload's bytes, and the bytes after it.
-#[tactic(auto, unfolding(frame_text::specs::Reading::bytes_at))]
+#[tactic(auto, unfolding(wire_base::specs::Tokens::bytes_at))]
 fn payload_bytes(size: u16, bytes: &[u8]) -> Result<(&[u8], &[u8]), Fault>
     ensures { Says (λ x. (x.0.now, x.1.now)) result (bytes_at size bytes.now) }
 {
@@ -128,7 +122,7 @@ fn frame(alloc: Global, bytes: &[u8]) -> Result<(Frame, &[u8]), DecodeError>
 
 #[tactic(auto, using(crate::proofs::Steps::steps), unfolding(frame_text::specs::Reading::front))]
 pub fn step(alloc: Global, bytes: &[u8], at: Place) -> FrameStep
-    requires { at.0 ≤ 2 ^ 63 }
+    requires { at.0 ≤ MAX_PLACE }
     ensures { Decodes result bytes.now at (front Version.One bytes.now) }
 {
     match frame(alloc, bytes) {

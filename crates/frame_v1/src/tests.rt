@@ -5,6 +5,51 @@ use std::process::Abort;
 use std::test::Fail;
 use wire_base::{Blob, Code, Frame, FrameStep, Origin, Payload, Place, Reason};
 
+fn is_short(alloc: Global, bytes: &[u8]) -> bool {
+    matches!(
+        V1Codec::new().decode(alloc, bytes, Place(7)),
+        FrameStep::Short
+    )
+}
+
+fn got(alloc: Global, bytes: &[u8]) -> Result<(Frame, usize), &'static str> {
+    match V1Codec::new().decode(alloc, bytes, Place(7)) {
+        FrameStep::Got(frame, size) => Ok((frame, size)),
+        _ => Err("no frame"),
+    }
+}
+
+fn refusal(alloc: Global, bytes: &[u8]) -> Option<(Place, Reason)> {
+    match V1Codec::new().decode(alloc, bytes, Place(100)) {
+        FrameStep::Refused(place, reason) => Some((place, reason)),
+        _ => None,
+    }
+}
+
+fn fits(frame: &Frame) -> bool {
+    V1Codec::new().fits(frame)
+}
+
+/// What is written behind some bytes.
+fn written(alloc: Global, front: &[u8], frame: &Frame) -> Result<Vec<u8>, Fail> {
+    let codec = V1Codec::new();
+    let mut text = front.to_vec(alloc)?;
+    if codec.fits(frame) {
+        codec.encode(frame, &mut text)?;
+    }
+    Ok(text)
+}
+
+/// A frame of this content.
+fn content(alloc: Global, id: u64, bytes: &[u8]) -> Result<Frame, Fail> {
+    Ok(Frame {
+        code: Code::Content,
+        id,
+        origin: Origin::ByParity,
+        payload: Payload::Content(Blob::from_bytes(alloc, bytes)?),
+    })
+}
+
 /// A frame is read when its last byte is in and not before, whatever follows, and then written in its shortest spelling.
 fn reads(
     rt: &impl Abort,
@@ -14,25 +59,22 @@ fn reads(
     spelling: &[u8],
     shortest: &[u8],
 ) -> Result<(), Fail> {
-    let codec = V1Codec::new();
     for end in 0..spelling.len() {
-        let step = codec.decode(alloc, &spelling[..end], Place(7));
-        assert!(rt; matches!(step, FrameStep::Short), "{spelling:?} at {end}");
+        assert!(rt; is_short(alloc, &spelling[..end]), "{spelling:?} at {end}");
     }
     let mut stream = Vec::from_slice(alloc, spelling)?;
     for following in [0, 0xff, 5] {
-        match codec.decode(alloc, &stream, Place(7)) {
-            FrameStep::Got(frame, size) => {
-                assert_eq!(rt; size, spelling.len(), "{spelling:?}");
-                assert_eq!(rt; frame.code, code, "{spelling:?}");
-                assert_eq!(rt; frame.id, id, "{spelling:?}");
-                assert!(rt; codec.fits(&frame), "{spelling:?}");
-                let mut text = Vec::new(alloc);
-                codec.encode(&frame, &mut text)?;
-                assert_eq!(rt; text.as_slice(), shortest, "{spelling:?}");
-            }
-            _ => assert!(rt; false, "{spelling:?}"),
-        }
+        let (frame, size) = got(alloc, &stream)?;
+        assert_eq!(rt;
+            (frame.code, frame.id, size),
+            (code, id, spelling.len()),
+            "{spelling:?}"
+        );
+        assert_eq!(rt;
+            written(alloc, &[], &frame)?.as_slice(),
+            shortest,
+            "{spelling:?}"
+        );
         stream.push(following)?;
     }
     Ok(())
@@ -99,16 +141,16 @@ fn refuses(
     offset: u32,
     reason: Reason,
 ) {
-    let codec = V1Codec::new();
     for end in 0..=bytes.len() {
-        match codec.decode(alloc, &bytes[..end], Place(100)) {
-            FrameStep::Short => assert!(rt; end < known, "{bytes:?} at {end}"),
-            FrameStep::Refused(place, why) => {
-                assert!(rt; known <= end, "{bytes:?} at {end}");
-                assert_eq!(rt; place, Place(100 + u64::from(offset)), "{bytes:?} at {end}");
-                assert_eq!(rt; why, reason, "{bytes:?} at {end}");
-            }
-            _ => assert!(rt; false, "{bytes:?} at {end}"),
+        if end < known {
+            assert!(rt; is_short(alloc, &bytes[..end]), "{bytes:?} at {end}");
+        } else {
+            let refused = Some((Place(100 + u64::from(offset)), reason));
+            assert_eq!(rt;
+                refusal(alloc, &bytes[..end]),
+                refused,
+                "{bytes:?} at {end}"
+            );
         }
     }
 }
@@ -150,28 +192,15 @@ fn refuses_at_the_first_field_that_breaks_a_rule(rt: HostRuntime) {
 #[test]
 fn writes_the_high_byte_of_a_length_first(rt: HostRuntime) -> Result<(), Fail> {
     let alloc = rt.alloc();
-    let codec = V1Codec::new();
-    let content = vec![in alloc; 7; 0x0102]?;
-    let frame = Frame {
-        code: Code::Content,
-        id: 0x01020304,
-        origin: Origin::ByParity,
-        payload: Payload::Content(Blob::from_bytes(alloc, &content)?),
-    };
-    assert!(rt; codec.fits(&frame));
-    let mut out = vec![in alloc; 9]?;
-    codec.encode(&frame, &mut out)?;
+    let bytes = vec![in alloc; 7; 0x0102]?;
+    let out = written(alloc, b"\x09", &content(alloc, 0x01020304, &bytes)?)?;
     assert_eq!(rt; out.len(), 1 + 7 + 0x0102);
     assert!(rt; out.starts_with(b"\x09\x02\x01\x02\x03\x04\x01\x02"));
-    assert_eq!(rt; &out[8..], content.as_slice());
-    match codec.decode(alloc, &out[1..], Place(0)) {
-        FrameStep::Got(read, size) => {
-            assert_eq!(rt; size, 7 + 0x0102);
-            match &read.payload {
-                Payload::Content(bytes) => assert_eq!(rt; bytes.as_bytes(), content.as_slice()),
-                _ => assert!(rt; false),
-            }
-        }
+    assert_eq!(rt; &out[8..], bytes.as_slice());
+    let (read, size) = got(alloc, &out[1..])?;
+    assert_eq!(rt; size, 7 + 0x0102);
+    match &read.payload {
+        Payload::Content(read) => assert_eq!(rt; read.as_bytes(), bytes.as_slice()),
         _ => assert!(rt; false),
     }
     Ok(())
@@ -180,21 +209,15 @@ fn writes_the_high_byte_of_a_length_first(rt: HostRuntime) -> Result<(), Fail> {
 #[test]
 fn fits_what_its_fields_hold(rt: HostRuntime) -> Result<(), Fail> {
     let alloc = rt.alloc();
-    let codec = V1Codec::new();
-    for (len, id, fits) in [
+    for (len, id, wanted) in [
         (0xffff, 0xffff_ffff, true),
         (0x1_0000, 1, false),
         (1, 0x1_0000_0000, false),
         (1, 0, false),
     ] {
-        let content = vec![in alloc; 0; len]?;
-        let frame = Frame {
-            code: Code::Content,
-            id,
-            origin: Origin::ByParity,
-            payload: Payload::Content(Blob::from_bytes(alloc, &content)?),
-        };
-        assert_eq!(rt; codec.fits(&frame), fits, "{len} {id}");
+        let bytes = vec![in alloc; 0; len]?;
+        let frame = content(alloc, id, &bytes)?;
+        assert_eq!(rt; fits(&frame), wanted, "{len} {id}");
     }
     Ok(())
 }

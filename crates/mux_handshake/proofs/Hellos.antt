@@ -11,11 +11,10 @@ use Rattle.wire_base.specs.declared.frame.Version.{Version}
 use Rattle.wire_base.specs.declared.frame.Version.TheVariants as version
 use Rattle.wire_base.specs.declared.token.TokenHead.TheVariants as token
 use Rattle.wire_base.specs.declared.reason.Reason.TheVariants.{BadMagic, BadVersion, SameNonce, BadShape2}
-use Rattle.frame_text.specs.declared.fault.Fault.TheVariants.{Ends}
+use Rattle.wire_base.specs.declared.reading.Fault.TheVariants.{Ends}
 use Rattle.frame_text.specs.Hello.{hello}
-use Rattle.frame_text.specs.Reading.{follow, allowed, head_at, field_at, token_at, bytes_at, only, a_number, a_bin, an_array, count_in}
-use Rattle.frame_text.proofs.Again.{head_at-again, token_at-again}
-use Rattle.frame_text.proofs.Plain.{field-again, bytes-again}
+use Rattle.wire_base.specs.Tokens.{follow, allowed, head_at, field_at, token_at, bytes_at, only, a_number, a_bin, an_array, count_in}
+use Rattle.wire_base.proofs.TokenAgain.{head_at-again, token_at-again, field-again, bytes-again}
 use Rattle.mux_items.specs.Parties.{party_by}
 use Rattle.mux_handshake.specs.Handshake.{nonce_at, plain_at, packed_at, major_at, major_in, handshake_at, handshake, Whole, Short, Broken}
 use Rattle.mux_handshake.proofs.Stopping.{judged}

@@ -6,13 +6,15 @@ use Rattle.wire_base.specs.declared.frame.Version.{Version}
 use Rattle.wire_base.specs.declared.frame.Version.TheVariants as version
 use Rattle.wire_base.specs.declared.reason.Reason.{Reason}
 use Rattle.wire_base.specs.declared.reason.Reason.TheVariants.{BadMagic, BadVersion, SameNonce, BadShape2}
-use Rattle.frame_text.specs.declared.fault.Fault.TheVariants.{Ends, Breaks}
-use Rattle.frame_text.specs.Reading.{Reading, follow, head_at, field_at, token_at, bytes_at, only, a_number, a_bin, an_array, count_in}
-use Rattle.frame_text.proofs.Heads.{is_sort-number, is_sort-bin, is_sort-array}
-use Rattle.frame_text.proofs.Steady.{IsSteady, Steady, steady-then, allowed-steady, head_at-steady, token_at-steady, field_at-steady, bytes_at-steady}
+use Rattle.wire_base.specs.declared.reading.Fault.TheVariants.{Ends, Breaks}
+use Rattle.wire_base.specs.Tokens.{Reading, follow, head_at, field_at, token_at, bytes_at, only, a_number, a_bin, an_array, count_in}
+use Rattle.wire_base.proofs.TokenSorts.{is_sort-number, is_sort-bin, is_sort-array}
+use Rattle.wire_base.proofs.TokenSteady.{IsSteady, Steady, steady-then, allowed-steady, head_at-steady, token_at-steady, field_at-steady, bytes_at-steady}
 use Rattle.mux_items.specs.declared.party.Party.{Party}
 use Rattle.mux_items.specs.Parties.{party_by}
-use Rattle.mux_handshake.specs.Handshake.{nonce_at, plain_at, packed_at, major_at, major_in, handshake_at, handshake_of, handshake, Handshake, Whole, Short, Broken}
+use Rattle.mux_handshake.specs.Handshake.{nonce_at, plain_at, packed_at, major_at, major_in, handshake_at, handshake, Handshake, Whole, Short, Broken}
+use Rattle.wire_base.specs.Front.{front_of}
+use Rattle.wire_base.proofs.Fronts.{IsFrontBelow, front_of-below, IsFrontSteady, front_of-steady, cut_short}
 use Rattle.mux_handshake.proofs.Stopping.{judged}
 use Rattle.mux_handshake.proofs.Taking.{handshake_takes}
 
@@ -62,25 +64,11 @@ handshake_at-steady version.Three own bytes more = refl
 
 -- ---- the front
 
-abbrev IsFrontSteady : Handshake → Handshake → Type 0
-IsFrontSteady (Whole party size) x = x ≡ Whole party size
-IsFrontSteady Short x = Unit {0}
-IsFrontSteady (Broken offset reason) x = x ≡ Broken offset reason
-
-handshake_of-steady : (total : ℕ) (more : List ℕ) (r s : Reading Party) → IsSteady more r s → IsFrontSteady (handshake_of total r) (handshake_of (total + length more) s)
-handshake_of-steady total more (Ok x) s h =
-    let same : (total + length more) - length (x.1 ++ more) ≡ total - length x.1 = omega (arith, length-append x.1 more) in
-    rw h (ap (λ n. Whole x.0 n) same)
-handshake_of-steady total more (Err Ends) s h = tt
-handshake_of-steady total more (Err (Breaks left reason)) s h =
-    let same : (total + length more) - (left + length more) ≡ total - left = omega arith in
-    rw h (ap (λ n. Broken n reason) same)
-
 handshake-steady : (v : Version) (own bytes more : List ℕ) → IsFrontSteady (handshake v own bytes) (handshake v own (bytes ++ more))
 unfolding handshake
 handshake-steady v own bytes more =
-    subst (λ n. IsFrontSteady (handshake_of (length bytes) (handshake_at v own bytes)) (handshake_of n (handshake_at v own (bytes ++ more)))) (sym (length-append bytes more))
-    (handshake_of-steady (length bytes) more (handshake_at v own bytes) (handshake_at v own (bytes ++ more)) (handshake_at-steady v own bytes more))
+    subst (λ n. IsFrontSteady (front_of (length bytes) (handshake_at v own bytes)) (front_of n (handshake_at v own (bytes ++ more)))) (sym (length-append bytes more))
+    (front_of-steady (length bytes) more (handshake_at v own bytes) (handshake_at v own (bytes ++ more)) (handshake_at-steady v own bytes more))
 
 pub whole_stays : (v : Version) (own bytes more : List ℕ) (party : Party) (size : ℕ) → handshake v own bytes ≡ Whole party size → handshake v own (bytes ++ more) ≡ Whole party size
 whole_stays v own bytes more party size e = subst (λ (x : Handshake). IsFrontSteady x (handshake v own (bytes ++ more))) e (handshake-steady v own bytes more)
@@ -88,34 +76,14 @@ whole_stays v own bytes more party size e = subst (λ (x : Handshake). IsFrontSt
 pub broken_stays : (v : Version) (own bytes more : List ℕ) (offset : ℕ) (reason : Reason) → handshake v own bytes ≡ Broken offset reason → handshake v own (bytes ++ more) ≡ Broken offset reason
 broken_stays v own bytes more offset reason e = subst (λ (x : Handshake). IsFrontSteady x (handshake v own (bytes ++ more))) e (handshake-steady v own bytes more)
 
-abbrev IsFrontWithin : ℕ → Handshake → Type 0
-IsFrontWithin total (Whole party size) = size ≤ total
-IsFrontWithin total Short = Unit {0}
-IsFrontWithin total (Broken offset reason) = Unit {0}
-
-handshake_of-within : (total : ℕ) (r : Reading Party) → IsFrontWithin total (handshake_of total r)
-handshake_of-within total (Ok x) = omega arith
-handshake_of-within total (Err Ends) = tt
-handshake_of-within total (Err (Breaks left reason)) = tt
-
-handshake-within : (v : Version) (own bytes : List ℕ) → IsFrontWithin (length bytes) (handshake v own bytes)
+handshake-within : (v : Version) (own bytes : List ℕ) → IsFrontBelow (length bytes) (handshake v own bytes)
 unfolding handshake
-handshake-within v own bytes = handshake_of-within (length bytes) (handshake_at v own bytes)
+handshake-within v own bytes = front_of-below (length bytes) (handshake_at v own bytes)
 
 pub whole_within : (v : Version) (own bytes : List ℕ) (party : Party) (size : ℕ) → handshake v own bytes ≡ Whole party size → size ≤ length bytes
-whole_within v own bytes party size e = subst (λ (x : Handshake). IsFrontWithin (length bytes) x) e (handshake-within v own bytes)
-
-cut-short : (v : Version) (own a b : List ℕ) (party : Party) (size : ℕ) (x : Handshake) → handshake v own (a ++ b) ≡ Whole party size → length a < size → handshake v own a ≡ x → x ≡ Short
-cut-short v own a b party size (Whole other n) e lt is =
-    let stays = whole_stays v own a b other n is in
-    let same : n ≡ size = cc in
-    absurd (omega (arith, whole_within v own a other n is))
-cut-short v own a b party size Short e lt is = refl
-cut-short v own a b party size (Broken offset reason) e lt is =
-    let stays = broken_stays v own a b offset reason is in
-    absurd cc
+whole_within v own bytes party size e = subst (λ (x : Handshake). IsFrontBelow (length bytes) x) e (handshake-within v own bytes)
 
 pub whole_cut : (v : Version) (own a b : List ℕ) (party : Party) (size : ℕ) → handshake v own (a ++ b) ≡ Whole party size → length a < size → handshake v own a ≡ Short
-whole_cut v own a b party size e lt = cut-short v own a b party size (handshake v own a) e lt refl
+whole_cut v own a b party size e lt = cut_short (handshake v own a) (handshake v own (a ++ b)) party size (length a) (handshake-steady v own a b) (handshake-within v own a) e lt
 
 pub ruleset steady = (whole_within, handshake_takes, whole_stays, broken_stays, whole_cut)

@@ -6,9 +6,9 @@ use Rattle.wire_base.specs.declared.frame.Version.{Version}
 use Rattle.wire_base.specs.declared.frame.Version.TheVariants as version
 use Rattle.wire_base.specs.declared.reason.Reason.{Reason}
 use Rattle.wire_base.specs.declared.reason.Reason.TheVariants.{BadMagic, BadVersion, SameNonce, BadShape2}
-use Rattle.frame_text.specs.declared.fault.Fault.TheVariants.{Ends, Breaks}
-use Rattle.frame_text.specs.Reading.{Reader, Reading, follow, head_at, field_at, token_at, bytes_at, only, a_number, a_bin, an_array, count_in}
-use Rattle.frame_text.proofs.Within.{Stops, IsBelow, Ends-below, IsCut, bytes_at-is, below-then, below-stops, field_at-below, head_at-stops, token_at-stops, allowed-within}
+use Rattle.wire_base.specs.declared.reading.Fault.TheVariants.{Ends, Breaks}
+use Rattle.wire_base.specs.Tokens.{Reader, Reading, follow, head_at, field_at, token_at, bytes_at, only, a_number, a_bin, an_array, count_in}
+use Rattle.wire_base.proofs.TokenWithin.{Stops, IsBelow, Ends-below, IsCut, bytes_at-is, below-then, below-stops, field_at-below, head_at-stops, token_at-stops, allowed-within}
 use Rattle.mux_items.specs.declared.party.Party.{Party}
 use Rattle.mux_items.specs.Parties.{party_by}
 use Rattle.mux_handshake.specs.Handshake.{nonce_at, plain_at, packed_at, major_at, major_in, handshake_at}

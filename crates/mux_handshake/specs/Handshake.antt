@@ -1,13 +1,15 @@
 -- Reading the peer's handshake from left to right, token by token, up to the first token that breaks a rule.
-use Rattle.std.specs.Prelude.{ℕ, ◌-◌, List, length, ℤ, pos, negsuc, if◌then◌else◌, Option, None, Ok, Err}
+use Rattle.std.specs.Prelude.{ℕ, List, length, ℤ, pos, negsuc, if◌then◌else◌, Option, None, Ok, Err}
 use Rattle.std.specs.Int.{w8}
 use Rattle.std.specs.Str.{bytes_eq}
 use Rattle.wire_base.specs.declared.frame.Version.{Version}
 use Rattle.wire_base.specs.declared.frame.Version.TheVariants as version
 use Rattle.wire_base.specs.declared.reason.Reason.{Reason}
 use Rattle.wire_base.specs.declared.reason.Reason.TheVariants.{BadMagic, BadVersion, SameNonce, BadShape2}
-use Rattle.frame_text.specs.declared.fault.Fault.TheVariants.{Ends, Breaks}
-use Rattle.frame_text.specs.Reading.{Reader, Reading, ◌>>=◌, done, follow, allowed, only, a_number, a_bin, an_array, count_in, head_at, token_at, field_at, bytes_at}
+use Rattle.wire_base.specs.declared.reading.Fault.TheVariants.{Ends, Breaks}
+use Rattle.wire_base.specs.Tokens.{Reader, Reading, ◌>>=◌, done, follow, allowed, only, a_number, a_bin, an_array, count_in, head_at, token_at, field_at, bytes_at}
+use Rattle.wire_base.specs.Front.{Front, front_of}
+pub use Rattle.wire_base.specs.Front.{Whole, Short, Broken}
 use Rattle.mux_items.specs.declared.party.Party.{Party}
 use Rattle.mux_items.specs.declared.party.Party.TheVariants.{Neither}
 use Rattle.mux_items.specs.Parties.{party_by}
@@ -49,17 +51,10 @@ handshake_at version.One own = plain_at own
 handshake_at version.Two own = packed_at own
 handshake_at version.Three own = done Neither
 
--- a whole handshake, with the party that this end has by it and its length; the beginning of one; or a token that breaks a rule, by its offset
-pub data Handshake : Type 0 where
-  Whole : (party : Party) → (size : ℕ) → Handshake
-  Short : Handshake
-  Broken : (offset : ℕ) → (reason : Reason) → Handshake
-
-abbrev pub handshake_of : (total : ℕ) → Reading Party → Handshake
-handshake_of total (Ok x) = Whole x.0 (total - length x.1)
-handshake_of total (Err Ends) = Short
-handshake_of total (Err (Breaks left reason)) = Broken (total - left) reason
+-- a whole handshake, which is the party that this end has by it, and its length; too few bytes to tell; or a token that breaks a rule, by its offset
+abbrev pub Handshake : Type 0
+Handshake = Front Party
 
 -- what stands at the front of these bytes, at an end with this nonce
 unfoldable pub handshake : Version → (own : List ℕ) → List ℕ → Handshake
-handshake v own bytes = handshake_of (length bytes) (handshake_at v own bytes)
+handshake v own bytes = front_of (length bytes) (handshake_at v own bytes)

@@ -10,7 +10,7 @@ ghost use Rattle.wire_base.specs.declared.frame.Version.TheVariants.{Three};
 ghost use Rattle.wire_base.specs.declared.reason.Reason.{Reason};
 ghost use Rattle.wire_base.specs.declared.reason.Reason.TheVariants.{SameNonce};
 
-/// What stands at the front stays so, whatever follows. Less than a whole handshake is the beginning of one. In versions
+/// What stands at the front stays so, whatever follows. Of less than a whole handshake there are too few bytes to tell. In versions
 /// 1 and 2 it takes a byte at least.
 #[tactic(auto, using(crate::proofs::Steady::steady))]
 pub fn handshake_is_steady()

@@ -8,7 +8,7 @@ use wire_base::{Place, Reason};
 pub enum Shaken {
     /// A whole handshake: which ids are this end's own by it, and how many bytes it takes.
     Done(Party, usize),
-    /// The beginning of one.
+    /// Too few bytes to tell.
     Short,
     /// A token at this place breaks a rule.
     Refused(Place, Reason),

@@ -1,6 +1,6 @@
 //! The peer's handshake, read.
 
-ghost use Rattle.frame_text.specs.Reading.{Says, field_at, only};
+ghost use Rattle.wire_base.specs.Tokens.{Says, field_at, only};
 ghost use Rattle.mux_handshake.specs.Handshake.{handshake, handshake_at, major_at, nonce_at, packed_at, plain_at};
 ghost use Rattle.mux_handshake.specs.Shaking.{Shakes};
 ghost use Rattle.mux_items.specs.Parties.{party_by};
@@ -9,10 +9,8 @@ ghost use Rattle.std.specs.Prelude.{◌≡◌};
 ghost use Rattle.wire_base.specs.declared.reason.Reason.TheVariants.{BadMagic};
 
 use crate::shaken::Shaken;
-use frame_pack::{array_of, bin_of, breaks, count, number};
-use frame_text::Fault;
 use mux_items::Party;
-use wire_base::{Place, Reason, Version};
+use wire_base::{Fault, Place, Reason, Version, array_of, bin_of, breaks, count, number};
 
 /// The side with the greater nonce is Odd.
 #[tactic(auto, using(crate::proofs::Greater::greater))]
@@ -23,7 +21,7 @@ fn party(own: &[u8; 16], peer: &[u8; 16]) -> Party
 }
 
 /// The peer's nonce, which tells the own party.
-#[tactic(auto, unfolding(crate::specs::Handshake::nonce_at, frame_text::specs::Reading::bytes_at))]
+#[tactic(auto, unfolding(crate::specs::Handshake::nonce_at, wire_base::specs::Tokens::bytes_at))]
 fn nonce<'a>(own: &[u8; 16], bytes: &'a [u8]) -> Result<(Party, &'a [u8]), Fault>
     ensures { Says (λ x. (x.0, x.1.now)) result (nonce_at own.now bytes.now) }
 {
@@ -37,7 +35,7 @@ fn nonce<'a>(own: &[u8; 16], bytes: &'a [u8]) -> Result<(Party, &'a [u8]), Fault
 }
 
 /// The bytes after the first, which must be this byte.
-#[tactic(auto, unfolding(frame_text::specs::Reading::field_at))]
+#[tactic(auto, unfolding(wire_base::specs::Tokens::field_at))]
 fn magic(byte: u8, bytes: &[u8]) -> Result<&[u8], Fault>
     ensures { Says (λ rest. (byte, rest.now)) result (field_at w8 (only byte) BadMagic bytes.now) }
 {

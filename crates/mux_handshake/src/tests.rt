@@ -32,6 +32,17 @@ fn bytes_of(alloc: Global, hex: &str) -> Result<Vec<u8>, Fail> {
     Ok(bytes)
 }
 
+fn shaken(version: Version, own: &[u8; 16], input: &[u8]) -> Shaken {
+    shake(version, own, input)
+}
+
+/// What is written behind some bytes.
+fn greeted(alloc: Global, version: Version, nonce: &[u8; 16], hex: &str) -> Result<Vec<u8>, Fail> {
+    let mut output = bytes_of(alloc, hex)?;
+    hello(version, nonce, &mut output)?;
+    Ok(output)
+}
+
 /// The peer's handshake is read when its last byte is in and not before, whatever stands behind it.
 fn reads(
     rt: &impl Abort,
@@ -45,13 +56,16 @@ fn reads(
     let mut bytes = bytes_of(alloc, spelling)?;
     bytes.extend_from_slice(peer)?;
     for end in 0..bytes.len() {
-        let shaken = shake(version, own, &bytes[..end]);
-        assert_eq!(rt; shaken, Shaken::Short, "{spelling} at {end}");
+        assert_eq!(rt;
+            shaken(version, own, &bytes[..end]),
+            Shaken::Short,
+            "{spelling} at {end}"
+        );
     }
     let size = bytes.len();
     for behind in [0x94, 0xc1] {
         assert_eq!(rt;
-            shake(version, own, &bytes),
+            shaken(version, own, &bytes),
             Shaken::Done(party, size),
             "{spelling}"
         );
@@ -109,12 +123,12 @@ fn refuses(
 ) -> Result<(), Fail> {
     let bytes = bytes_of(alloc, hex)?;
     for end in 0..=bytes.len() {
-        let shaken = shake(version, &ONES, &bytes[..end]);
-        if end < known {
-            assert_eq!(rt; shaken, Shaken::Short, "{hex} at {end}");
-        } else {
-            assert_eq!(rt; shaken, refused, "{hex} at {end}");
-        }
+        let wanted = if end < known { Shaken::Short } else { refused };
+        assert_eq!(rt;
+            shaken(version, &ONES, &bytes[..end]),
+            wanted,
+            "{hex} at {end}"
+        );
     }
     Ok(())
 }
@@ -185,8 +199,10 @@ fn refuses_the_first_token(rt: HostRuntime) -> Result<(), Fail> {
 #[test]
 fn version_3_has_no_handshake(rt: HostRuntime) -> Result<(), Fail> {
     for input in [[].as_slice(), [0xc1].as_slice()] {
-        let shaken = shake(Version::Three, &ONES, input);
-        assert_eq!(rt; shaken, Shaken::Done(Party::Neither, 0));
+        assert_eq!(rt;
+            shaken(Version::Three, &ONES, input),
+            Shaken::Done(Party::Neither, 0)
+        );
     }
     Ok(())
 }
@@ -196,11 +212,9 @@ fn the_greater_nonce_is_odd(rt: HostRuntime) -> Result<(), Fail> {
     for (version, front) in [(Version::One, "2fdf1d50"), (Version::Two, "92920200c410")] {
         for (less, greater) in [(ZEROS, ONES), (LOW, HIGH)] {
             let mut wanted = bytes_of(rt.alloc(), "94")?;
-            let mut output = bytes_of(rt.alloc(), "94")?;
             wanted.append(&mut bytes_of(rt.alloc(), front)?)?;
             wanted.extend_from_slice(&less)?;
-            hello(version, &less, &mut output)?;
-            assert_eq!(rt; output.as_slice(), wanted.as_slice());
+            assert_eq!(rt; greeted(rt.alloc(), version, &less, "94")?, wanted);
             reads(
                 &rt,
                 rt.alloc(),

@@ -3,20 +3,16 @@ use Rattle.std.specs.Prelude.{◌≡◌, ℕ, ◌+◌, ◌≤◌, max, List, [],
 use Rattle.wire_base.specs.Tree.{Tree, nil, flag, whole, words, bytes, items, pairs, Trees, no_items, item, Pairs, no_pairs, pair}
 use Rattle.wire_base.specs.declared.token.TokenHead.{TokenHead}
 use Rattle.wire_base.specs.declared.token.TokenHead.TheVariants as token
-use Rattle.wire_base.specs.declared.token.HeadStep.TheVariants.{Got}
-use Rattle.wire_base.specs.Head.{head_of}
+pub use Rattle.wire_base.specs.Head.{IsHead}
+use Rattle.pack_value.specs.declared.limits.TheConstants.{MAX_LEN, MAX_NESTING}
 
 -- The greatest length of a text, of bytes, of an array and of a map.
 abbrev pub max_len : ℕ
-max_len = 16777216
+max_len = MAX_LEN
 
 -- How deep arrays and maps may nest.
 abbrev pub max_nesting : ℕ
-max_nesting = 127
-
--- These bytes, all of them, are a head of that token, of any width.
-abbrev pub IsHead : TokenHead → List ℕ → Type 0
-IsHead h b = head_of b ≡ Got h (length b)
+max_nesting = MAX_NESTING
 
 -- A head, and these bytes behind it.
 pub record IsHeaded (h : TokenHead) (body b : List ℕ) : Type 0 where

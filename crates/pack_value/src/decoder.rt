@@ -13,8 +13,8 @@ use crate::limits::{MAX_LEN, MAX_NESTING};
 use crate::step::Step;
 use std::alloc::Global;
 use wire_base::{
-    Blob, Datum, DatumList, HeadStep, Node, PairList, Place, Reason, Text, TextFault, TokenHead,
-    head,
+    Blob, Datum, DatumList, HeadStep, MAX_PLACE, Node, PairList, Place, Reason, Text, TextFault,
+    TokenHead, head,
 };
 
 fn refused(reason: Reason, left: usize) -> DecodeError
@@ -238,7 +238,7 @@ fn value_of(alloc: Global, depth: u32, bytes: &[u8]) -> Result<(Datum, &[u8]), D
 }
 
 fn step_at(alloc: Global, bytes: &[u8], at: Place) -> Step
-    requires { at.0 ≤ 2 ^ 63 }
+    requires { at.0 ≤ MAX_PLACE }
     ensures { Answers result (step_of at.0 (front_of bytes.now)) }
 {
     match value_of(alloc, MAX_NESTING, bytes) {
@@ -254,7 +254,7 @@ fn step_at(alloc: Global, bytes: &[u8], at: Place) -> Step
 /// The value at the front of the bytes, which begin at this place of a stream. Bytes may follow it. Each byte of the
 /// value is read once, and the stack grows with the nesting alone.
 pub fn decode(alloc: Global, bytes: &[u8], at: Place) -> Step
-    requires { at.0 ≤ 2 ^ 63 }
+    requires { at.0 ≤ MAX_PLACE }
     // What is got is spelled so.
     ensures got { IfGot result (IsAtFront bytes.now) }
     // What is spelled so is got, unless memory runs out.

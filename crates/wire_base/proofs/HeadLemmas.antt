@@ -1,7 +1,7 @@
 -- What a head is, whatever stands behind it.
 use Rattle.std.proofs.Common.{◌≡◌, ℕ, suc, ◌+◌, ◌≤◌, ◌<◌, inl, inr, List, [], ◌∷◌, ◌++◌, length, take, refl, sym, ap, ◌∙◌, arith, length-append, add-one}
 use Rattle.std.specs.Prelude.{pos}
-use Rattle.std.specs.Int.{Width, byte_len, from_be_bytes, cast_signed}
+use Rattle.std.specs.Int.{Width, w8, w16, w32, w64, w128, byte_len, from_be_bytes, cast_signed}
 use Rattle.std.proofs.lemmas.Bool.{cases_lt, le-ltb, lt-ltb}
 use Rattle.std.proofs.lemmas.List.{take-take, take-append-le, length-take}
 use Rattle.wire_base.specs.declared.reason.Reason.{Reason}
@@ -102,5 +102,29 @@ head_cut [] more h n e lt = refl
 head_cut (b ∷ rest) more h n e lt = by_kind (λ read. read (rest ++ more) ≡ Got h n → read rest ≡ Short)
     (λ g e. let is_1 : n ≡ 1 = cc in absurd (omega arith))
     (λ w f e. let there = numbered_there w f (rest ++ more) h n e in numbered_short w f rest (omega (arith, there.1)))
+    (λ r e. absurd (cc))
+    (kind_of b) e
+
+-- what isn't whole isn't refused later
+pub kind_unfinished : (k : Kind) (rest other : List ℕ) (r : Reason) → read_kind k rest ≡ Short → read_kind k other ≡ Refused r → ⊥
+kind_unfinished k rest other r = by_kind (λ read. read rest ≡ Short → read other ≡ Refused r → ⊥)
+    (λ g e d. cc)
+    (λ w f e d. numbered_not_refused w f other r d)
+    (λ q e d. cc)
+    k
+
+pub byte_len_most : (w : Width) → byte_len w ≤ 16
+byte_len_most w8 = omega arith
+byte_len_most w16 = omega arith
+byte_len_most w32 = omega arith
+byte_len_most w64 = omega arith
+byte_len_most w128 = omega arith
+
+-- no head is longer
+pub head_most : (bytes : List ℕ) (h : TokenHead) (n : ℕ) → head_of bytes ≡ Got h n → n ≤ 17
+head_most [] h n e = absurd (cc)
+head_most (b ∷ rest) h n e = by_kind (λ read. read rest ≡ Got h n → n ≤ 17)
+    (λ g e. let is_1 : n ≡ 1 = cc in omega arith)
+    (λ w f e. let there = numbered_there w f rest h n e in omega (arith, there.1, byte_len_most w))
     (λ r e. absurd (cc))
     (kind_of b) e

@@ -5,3 +5,8 @@ pub mod Moved
 pub mod HeadLemmas
 pub mod ShortestLemmas
 pub mod AppendsLemmas
+pub mod TokenSorts
+pub mod TokenWithin
+pub mod TokenSteady
+pub mod TokenAgain
+pub mod Fronts

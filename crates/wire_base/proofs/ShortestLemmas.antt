@@ -9,7 +9,7 @@ use Rattle.std.proofs.lemmas.Bool.{cases_lt, le-ltb, lt-ltb}
 use Rattle.wire_base.specs.declared.token.TokenHead.{TokenHead}
 use Rattle.wire_base.specs.declared.token.TokenHead.TheVariants as token
 use Rattle.wire_base.specs.declared.token.HeadStep.TheVariants.{Got}
-use Rattle.wire_base.specs.Head.{head_of, lettered, numbered}
+use Rattle.wire_base.specs.Head.{head_of, lettered, numbered, IsHead}
 use Rattle.wire_base.specs.Shortest.{unsigned_text, negative_text, whole_text, str_head, bin_head, array_head, map_head}
 use Rattle.wire_base.specs.Whole.{IsWhole}
 use Rattle.wire_base.proofs.HeadLemmas.{head_stays}
@@ -53,10 +53,6 @@ module _ (b : ℕ) (f : ℕ → TokenHead) (n : ℕ) where
 
   after_64 : ((s : List ℕ) → head_of (b ∷ s) ≡ numbered w64 f s) → n < 2 ^ 64 → head_of (b ∷ to_be_bytes w64 n) ≡ Got (f n) 9
   after_64 is lt = is (to_be_bytes w64 n) ∙ ap (λ (m : ℕ). Got (f m) 9) (from_be_bytes-to_be_bytes_8 n lt)
-
--- these bytes are a head of that token, all of them
-abbrev pub IsHead : TokenHead → List ℕ → Type 0
-IsHead h bytes = head_of bytes ≡ Got h (length bytes)
 
 pub is_unsigned : (n : ℕ) → n < 2 ^ 64 → IsHead (token.Whole (pos n)) (unsigned_text n)
 unfolding lettered

@@ -1,5 +1,5 @@
 -- The heads of tokens, as the MessagePack specification has them in "Formats"; a float, an extension and c1 are refused.
-use Rattle.std.specs.Prelude.{ℕ, ◌+◌, ◌-◌, ◌<◌, ◌≤◌, List, [], ◌∷◌, length, take, pos, negsuc, true, false, nat_lt, ◌==◌, if◌then◌else◌}
+use Rattle.std.specs.Prelude.{◌≡◌, ℕ, ◌+◌, ◌-◌, ◌<◌, ◌≤◌, List, [], ◌∷◌, length, take, pos, negsuc, true, false, nat_lt, ◌==◌, if◌then◌else◌}
 use Rattle.std.specs.Int.{Width, w8, w16, w32, w64, byte_len, from_be_bytes, cast_signed}
 use Rattle.wire_base.specs.declared.reason.Reason.{Reason}
 use Rattle.wire_base.specs.declared.reason.Reason.TheVariants.{Unused, Float, Ext}
@@ -89,3 +89,7 @@ abbrev pub IsWithinTail : HeadStep → List ℕ → Type 0
 IsWithinTail (Got h n) rest = (0 < n) × (n ≤ length rest + 1)
 IsWithinTail (Refused r) rest = Unit {0}
 IsWithinTail Short rest = Unit {0}
+
+-- these bytes, all of them, are a head that says this
+abbrev pub IsHead : TokenHead → List ℕ → Type 0
+IsHead h b = head_of b ≡ Got h (length b)

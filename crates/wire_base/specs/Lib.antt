@@ -13,3 +13,5 @@ pub mod Shortest
 pub mod Appends
 pub mod Standard
 pub mod ControlCode
+pub mod Tokens
+pub mod Front

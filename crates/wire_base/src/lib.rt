@@ -8,8 +8,10 @@ mod frame;
 mod heads;
 mod in_memory;
 mod laws;
+mod limits;
 mod out_of_memory;
 mod place;
+mod reading;
 mod reason;
 mod refusal;
 mod shortest;
@@ -18,6 +20,7 @@ mod state;
 mod streams;
 mod text;
 mod token;
+mod tokens;
 mod whole;
 
 pub use blob::Blob;
@@ -27,8 +30,12 @@ pub use frame::{Code, Frame, FrameStep, Origin, Payload, Version};
 pub use heads::head;
 pub use in_memory::{Calls, MemSink, MemSource};
 pub use laws::{heads_stay, shortest_heads_are_heads};
+pub use limits::{
+    COUNT_LIMIT, FRAME_BOUND, MAX_FED, MAX_PAYLOAD, MAX_PLACE, MAX_PLAIN_PAYLOAD, PLAIN_ID_LIMIT,
+};
 pub use out_of_memory::OutOfMemory;
 pub use place::Place;
+pub use reading::{DecodeError, Fault};
 pub use reason::Reason;
 pub use refusal::Refusal;
 pub use shortest::{
@@ -39,6 +46,9 @@ pub use state::{Cause, EndState};
 pub use streams::{Failed, Link, Sink, Source};
 pub use text::{Id, Text, TextFault};
 pub use token::{HeadStep, TokenHead};
+pub use tokens::{
+    array_head, array_of, bin_head, bin_of, breaks, count, number, open_array, str_head,
+};
 pub use whole::Whole;
 
 #[cfg(test)]

@@ -1,6 +1,3 @@
-ghost use Rattle.frame_text.specs.Codec.{is_packed};
-ghost use Rattle.std.specs.Prelude.{◌≡◌, true};
-
 use super::*;
 use std::process::Abort;
 use std::test::Fail;
@@ -22,38 +19,57 @@ fn bytes_of(alloc: Global, hex: &str) -> Result<Vec<u8>, Fail> {
     Ok(bytes)
 }
 
+fn is_short(codec: &PackCodec, alloc: Global, bytes: &[u8]) -> bool {
+    matches!(codec.decode(alloc, bytes, Place(7)), FrameStep::Short)
+}
+
+fn got(codec: &PackCodec, alloc: Global, bytes: &[u8]) -> Result<(Frame, usize), &'static str> {
+    match codec.decode(alloc, bytes, Place(7)) {
+        FrameStep::Got(frame, size) => Ok((frame, size)),
+        _ => Err("no frame"),
+    }
+}
+
+fn refusal(codec: &PackCodec, alloc: Global, bytes: &[u8]) -> Option<(Place, Reason)> {
+    match codec.decode(alloc, bytes, Place(100)) {
+        FrameStep::Refused(place, reason) => Some((place, reason)),
+        _ => None,
+    }
+}
+
+fn written(codec: &PackCodec, alloc: Global, frame: &Frame) -> Result<Vec<u8>, Fail> {
+    let mut text = Vec::new(alloc);
+    if codec.fits(frame) {
+        codec.encode(frame, &mut text)?;
+    }
+    Ok(text)
+}
+
 /// A frame is read when its last byte is in and not before, and then written in its shortest spelling.
 fn reads(
     rt: &impl Abort,
     alloc: Global,
-    version: Version,
+    codec: &PackCodec,
     spelling: &str,
     shortest: &str,
-) -> Result<(), Fail>
-    requires { is_packed version ≡ true }
-{
-    let codec = PackCodec::new(version);
+) -> Result<(), Fail> {
     let bytes = bytes_of(alloc, spelling)?;
     for end in 0..bytes.len() {
-        let step = codec.decode(alloc, &bytes[..end], Place(7));
-        assert!(rt; matches!(step, FrameStep::Short), "{spelling} at {end}");
+        assert!(rt;
+            is_short(codec, alloc, &bytes[..end]),
+            "{spelling} at {end}"
+        );
     }
+    let (frame, size) = got(codec, alloc, &bytes)?;
+    assert_eq!(rt; size, bytes.len(), "{spelling}");
     let wanted = bytes_of(alloc, shortest)?;
-    match codec.decode(alloc, &bytes, Place(7)) {
-        FrameStep::Got(frame, size) => {
-            assert_eq!(rt; size, bytes.len(), "{spelling}");
-            assert!(rt; codec.fits(&frame), "{spelling}");
-            let mut text = Vec::new(alloc);
-            codec.encode(&frame, &mut text)?;
-            assert_eq!(rt; text.as_slice(), wanted.as_slice(), "{spelling}");
-        }
-        _ => assert!(rt; false, "{spelling}"),
-    }
+    assert_eq!(rt; written(codec, alloc, &frame)?, wanted, "{spelling}");
     Ok(())
 }
 
 #[test]
 fn reads_every_width_of_version_3(rt: HostRuntime) -> Result<(), Fail> {
+    let codec = PackCodec::new(Version::Three);
     for (spelling, shortest) in [
         ("94000101c40492a16108", "94000101c40492a16108"),
         (
@@ -103,13 +119,14 @@ fn reads_every_width_of_version_3(rt: HostRuntime) -> Result<(), Fail> {
             "9402cf7fffffffffffffff01c40161",
         ),
     ] {
-        reads(&rt, rt.alloc(), Version::Three, spelling, shortest)?;
+        reads(&rt, rt.alloc(), &codec, spelling, shortest)?;
     }
     Ok(())
 }
 
 #[test]
 fn reads_every_width_of_version_2(rt: HostRuntime) -> Result<(), Fail> {
+    let codec = PackCodec::new(Version::Two);
     for (spelling, shortest) in [
         ("930004c40492a16108", "930004c40492a16108"),
         (
@@ -139,7 +156,7 @@ fn reads_every_width_of_version_2(rt: HostRuntime) -> Result<(), Fail> {
             "930504c4029102",
         ),
     ] {
-        reads(&rt, rt.alloc(), Version::Two, spelling, shortest)?;
+        reads(&rt, rt.alloc(), &codec, spelling, shortest)?;
     }
     Ok(())
 }
@@ -148,25 +165,23 @@ fn reads_every_width_of_version_2(rt: HostRuntime) -> Result<(), Fail> {
 fn refuses(
     rt: &impl Abort,
     alloc: Global,
-    version: Version,
+    codec: &PackCodec,
     hex: &str,
     known: usize,
     offset: u32,
     reason: Reason,
-) -> Result<(), Fail>
-    requires { is_packed version ≡ true }
-{
-    let codec = PackCodec::new(version);
+) -> Result<(), Fail> {
     let bytes = bytes_of(alloc, hex)?;
     for end in 0..=bytes.len() {
-        match codec.decode(alloc, &bytes[..end], Place(100)) {
-            FrameStep::Short => assert!(rt; end < known, "{hex} at {end}"),
-            FrameStep::Refused(place, why) => {
-                assert!(rt; known <= end, "{hex} at {end}");
-                assert_eq!(rt; place, Place(100 + u64::from(offset)), "{hex} at {end}");
-                assert_eq!(rt; why, reason, "{hex} at {end}");
-            }
-            _ => assert!(rt; false, "{hex} at {end}"),
+        if end < known {
+            assert!(rt; is_short(codec, alloc, &bytes[..end]), "{hex} at {end}");
+        } else {
+            let refused = Some((Place(100 + u64::from(offset)), reason));
+            assert_eq!(rt;
+                refusal(codec, alloc, &bytes[..end]),
+                refused,
+                "{hex} at {end}"
+            );
         }
     }
     Ok(())
@@ -174,6 +189,7 @@ fn refuses(
 
 #[test]
 fn refuses_the_first_token_of_version_3(rt: HostRuntime) -> Result<(), Fail> {
+    let codec = PackCodec::new(Version::Three);
     for (hex, known, offset, reason) in [
         ("c1", 1, 0, Reason::Unused),
         ("cb", 1, 0, Reason::Float),
@@ -234,13 +250,14 @@ fn refuses_the_first_token_of_version_3(rt: HostRuntime) -> Result<(), Fail> {
         ("940501ffc40291a0", 8, 7, Reason::BadProcessed),
         ("940501ffc4039102cb", 9, 8, Reason::Float),
     ] {
-        refuses(&rt, rt.alloc(), Version::Three, hex, known, offset, reason)?;
+        refuses(&rt, rt.alloc(), &codec, hex, known, offset, reason)?;
     }
     Ok(())
 }
 
 #[test]
 fn refuses_the_first_token_of_version_2(rt: HostRuntime) -> Result<(), Fail> {
+    let codec = PackCodec::new(Version::Two);
     for (hex, known, offset, reason) in [
         ("91", 1, 0, Reason::BadShape),
         ("94", 1, 0, Reason::BadShape),
@@ -251,7 +268,7 @@ fn refuses_the_first_token_of_version_2(rt: HostRuntime) -> Result<(), Fail> {
         ("9206", 2, 1, Reason::BadCode),
         ("920200", 3, 2, Reason::BadId),
     ] {
-        refuses(&rt, rt.alloc(), Version::Two, hex, known, offset, reason)?;
+        refuses(&rt, rt.alloc(), &codec, hex, known, offset, reason)?;
     }
     Ok(())
 }

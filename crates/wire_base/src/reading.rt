@@ -1,9 +1,10 @@
 //! What ends a reading.
 
-ghost use Rattle.frame_text.specs.declared.fault.DecodeError.TheVariants as errors;
+ghost use Rattle.wire_base.specs.declared.reading.DecodeError.TheVariants as errors;
 ghost use Rattle.std.specs.Prelude.{◌≡◌};
 
-use wire_base::{OutOfMemory, Reason};
+use crate::out_of_memory::OutOfMemory;
+use crate::reason::Reason;
 
 /// What ends a reading before its end.
 #[derive(Clone, Copy, Debug, PartialEq, Eq)]

@@ -1,38 +1,37 @@
-//! Tokens of one sort.
+//! Tokens of one sort, read.
 
-ghost use Rattle.frame_text.specs.Reading.{Says, a_bin, a_number, a_str, an_array, code_in, count_in, head_at, id_in, inner_at, is_array, is_bin, is_number, is_str, last_in, number_in, only, origin_in, token_at};
+ghost use Rattle.wire_base.specs.Tokens.{Says, a_bin, a_number, a_str, an_array, count_in, head_at, is_array, is_bin, is_number, is_str, last_in, number_in, only, token_at};
 ghost use Rattle.std.specs.Prelude.{◌≡◌, ◌+◌, ◌<◌, ◌^◌, length, Some};
 ghost use Rattle.wire_base.specs.Head.{kind_of};
-ghost use Rattle.wire_base.specs.declared.reason.Reason.TheVariants.{BadCode, BadId, BadSource};
 
-use frame_text::Fault;
-use wire_base::{Code, HeadStep, Origin, Reason, TokenHead, head};
+use crate::heads::head;
+use crate::limits::COUNT_LIMIT;
+use crate::reading::Fault;
+use crate::reason::Reason;
+use crate::token::{HeadStep, TokenHead};
 
-/// An id, a window or a count is below this.
-const NUMBER_LIMIT: i128 = 0x8000_0000_0000_0000;
-
-#[tactic(auto, unfolding(wire_base::specs::Head::lettered))]
+#[tactic(auto, unfolding(crate::specs::Head::lettered))]
 fn begins_number(first: u8) -> bool
     ensures { result ≡ is_number (kind_of first) }
 {
     matches!(first, 0x00..=0x7f | 0xcc..=0xd3 | 0xe0..=0xff)
 }
 
-#[tactic(auto, unfolding(wire_base::specs::Head::lettered))]
+#[tactic(auto, unfolding(crate::specs::Head::lettered))]
 fn begins_str(first: u8) -> bool
     ensures { result ≡ is_str (kind_of first) }
 {
     matches!(first, 0xa0..=0xbf | 0xd9..=0xdb)
 }
 
-#[tactic(auto, unfolding(wire_base::specs::Head::lettered))]
+#[tactic(auto, unfolding(crate::specs::Head::lettered))]
 fn begins_bin(first: u8) -> bool
     ensures { result ≡ is_bin (kind_of first) }
 {
     matches!(first, 0xc4..=0xc6)
 }
 
-#[tactic(auto, unfolding(wire_base::specs::Head::lettered))]
+#[tactic(auto, unfolding(crate::specs::Head::lettered))]
 fn begins_array(first: u8) -> bool
     ensures { result ≡ is_array (kind_of first) }
 {
@@ -56,7 +55,7 @@ fn number_said(token: TokenHead) -> Option<i128>
 }
 
 /// A whole number of any width, and the bytes after it.
-#[tactic(auto, unfolding(frame_text::specs::Reading::head_at))]
+#[tactic(auto, unfolding(crate::specs::Tokens::head_at))]
 pub fn number(reason: Reason, bytes: &[u8]) -> Result<(i128, &[u8]), Fault>
     ensures { Says (λ x. (x.0, x.1.now)) result (head_at a_number reason bytes.now) }
 {
@@ -73,7 +72,8 @@ pub fn number(reason: Reason, bytes: &[u8]) -> Result<(i128, &[u8]), Fault>
     }
 }
 
-#[tactic(auto, unfolding(frame_text::specs::Reading::head_at))]
+/// The head of a str, which says how many bytes follow it, and the bytes after the head.
+#[tactic(auto, unfolding(crate::specs::Tokens::head_at))]
 pub fn str_head(reason: Reason, bytes: &[u8]) -> Result<(u32, &[u8]), Fault>
     ensures { Says (λ x. (x.0, x.1.now)) result (head_at a_str reason bytes.now) }
 {
@@ -88,7 +88,8 @@ pub fn str_head(reason: Reason, bytes: &[u8]) -> Result<(u32, &[u8]), Fault>
     }
 }
 
-#[tactic(auto, unfolding(frame_text::specs::Reading::head_at))]
+/// The head of a bin, which says how many bytes follow it, and the bytes after the head.
+#[tactic(auto, unfolding(crate::specs::Tokens::head_at))]
 pub fn bin_head(reason: Reason, bytes: &[u8]) -> Result<(u32, &[u8]), Fault>
     ensures { Says (λ x. (x.0, x.1.now)) result (head_at a_bin reason bytes.now) }
 {
@@ -103,8 +104,9 @@ pub fn bin_head(reason: Reason, bytes: &[u8]) -> Result<(u32, &[u8]), Fault>
     }
 }
 
-#[tactic(auto, unfolding(frame_text::specs::Reading::head_at))]
-fn array_head(reason: Reason, bytes: &[u8]) -> Result<(u32, &[u8]), Fault>
+/// The head of an array, which says how many elements follow it, and the bytes after the head.
+#[tactic(auto, unfolding(crate::specs::Tokens::head_at))]
+pub fn array_head(reason: Reason, bytes: &[u8]) -> Result<(u32, &[u8]), Fault>
     ensures { Says (λ x. (x.0, x.1.now)) result (head_at an_array reason bytes.now) }
 {
     match head(bytes) {
@@ -119,7 +121,7 @@ fn array_head(reason: Reason, bytes: &[u8]) -> Result<(u32, &[u8]), Fault>
 }
 
 /// An array whose last element may be left out, and whether it has that one.
-#[tactic(auto, unfolding(frame_text::specs::Reading::token_at))]
+#[tactic(auto, unfolding(crate::specs::Tokens::token_at))]
 pub fn open_array(least: u32, reason: Reason, bytes: &[u8]) -> Result<(bool, &[u8]), Fault>
     requires { least < 8 }
     ensures { Says (λ x. (x.0, x.1.now)) result (token_at an_array (last_in least) reason bytes.now) }
@@ -135,7 +137,7 @@ pub fn open_array(least: u32, reason: Reason, bytes: &[u8]) -> Result<(bool, &[u
 }
 
 /// The head of an array of so many elements, and the bytes after it.
-#[tactic(auto, unfolding(frame_text::specs::Reading::token_at))]
+#[tactic(auto, unfolding(crate::specs::Tokens::token_at))]
 pub fn array_of(elements: u32, reason: Reason, bytes: &[u8]) -> Result<(u32, &[u8]), Fault>
     ensures { Says (λ x. (x.0, x.1.now)) result (token_at an_array (only elements) reason bytes.now) }
 {
@@ -148,7 +150,7 @@ pub fn array_of(elements: u32, reason: Reason, bytes: &[u8]) -> Result<(u32, &[u
 }
 
 /// The head of a bin of so many bytes, and the bytes after it.
-#[tactic(auto, unfolding(frame_text::specs::Reading::token_at))]
+#[tactic(auto, unfolding(crate::specs::Tokens::token_at))]
 pub fn bin_of(size: u32, reason: Reason, bytes: &[u8]) -> Result<(u32, &[u8]), Fault>
     ensures { Says (λ x. (x.0, x.1.now)) result (token_at a_bin (only size) reason bytes.now) }
 {
@@ -160,58 +162,13 @@ pub fn bin_of(size: u32, reason: Reason, bytes: &[u8]) -> Result<(u32, &[u8]), F
     }
 }
 
-fn code_said(number: i128) -> Option<Code>
-    ensures { result ≡ code_in number }
-{
-    if 0 <= number && number < 256 {
-        Code::from_number(number as u8)
-    } else {
-        None
-    }
-}
-
-#[tactic(auto, unfolding(frame_text::specs::Reading::token_at))]
-pub fn code(bytes: &[u8]) -> Result<(Code, &[u8]), Fault>
-    ensures { Says (λ x. (x.0, x.1.now)) result (token_at a_number code_in BadCode bytes.now) }
-{
-    let (number, rest) = number(Reason::BadCode, bytes)?;
-    match code_said(number) {
-        Some(code) => Ok((code, rest)),
-        None => Err(breaks(bytes, Reason::BadCode)),
-    }
-}
-
-#[tactic(auto, unfolding(frame_text::specs::Reading::token_at))]
-pub fn id(bytes: &[u8]) -> Result<(u64, &[u8]), Fault>
-    ensures { Says (λ x. (x.0, x.1.now)) result (token_at a_number id_in BadId bytes.now) }
-{
-    let (number, rest) = number(Reason::BadId, bytes)?;
-    if 0 < number && number < NUMBER_LIMIT {
-        Ok((number as u64, rest))
-    } else {
-        Err(breaks(bytes, Reason::BadId))
-    }
-}
-
-#[tactic(auto, unfolding(frame_text::specs::Reading::token_at))]
-pub fn source(bytes: &[u8]) -> Result<(Origin, &[u8]), Fault>
-    ensures { Says (λ x. (x.0, x.1.now)) result (token_at a_number origin_in BadSource bytes.now) }
-{
-    let (number, rest) = number(Reason::BadSource, bytes)?;
-    match number {
-        1 => Ok((Origin::Sender, rest)),
-        -1 => Ok((Origin::Receiver, rest)),
-        _ => Err(breaks(bytes, Reason::BadSource)),
-    }
-}
-
 /// A window or a count, which is a whole number from 0 to 2^63 - 1, and the bytes after it.
-#[tactic(auto, unfolding(frame_text::specs::Reading::token_at))]
+#[tactic(auto, unfolding(crate::specs::Tokens::token_at))]
 pub fn count(reason: Reason, bytes: &[u8]) -> Result<(u64, &[u8]), Fault>
     ensures { Says (λ x. (x.0, x.1.now)) result (token_at a_number count_in reason bytes.now) }
 {
     let (number, rest) = number(reason, bytes)?;
-    if 0 <= number && number < NUMBER_LIMIT {
+    if 0 <= number && number < COUNT_LIMIT as i128 {
         Ok((number as u64, rest))
     } else {
         Err(breaks(bytes, reason))
