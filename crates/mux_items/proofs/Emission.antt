@@ -129,11 +129,15 @@ cut_unnamed c (Got place key ChannelTerminated) items e = rw e refl
 cut_unnamed c (End cause) items e = absurd (true≢false e)
 cut_unnamed c item items e = refl
 
-pub emitted_same : (v : Version) (c : ChannelKey) (item : Item) (items : List Item) → emitted_in v c (item ∷ items) ≡ emitted_in v c items → emitted v c (item ∷ items) ≡ emitted v c items
-emitted_same v c item items same = elim (before_cut_cases c item items) [
-  | inl e ↦ ap (emitted_in v c) e
-  | inr e ↦ ap (emitted_in v c) e.0 ∙ (same ∙ sym (ap (emitted_in v c) e.1))
+-- an item that leaves what is read from the list before the cut
+pub before_same : {A : Type 0} (c : ChannelKey) (f : List Item → A) (item : Item) (items : List Item) → f (item ∷ items) ≡ f items → f (before_cut c (item ∷ items)) ≡ f (before_cut c items)
+before_same c f item items same = elim (before_cut_cases c item items) [
+  | inl e ↦ ap f e
+  | inr e ↦ ap f e.0 ∙ (same ∙ sym (ap f e.1))
 ]
+
+pub emitted_same : (v : Version) (c : ChannelKey) (item : Item) (items : List Item) → emitted_in v c (item ∷ items) ≡ emitted_in v c items → emitted v c (item ∷ items) ≡ emitted v c items
+emitted_same v c item items same = before_same c (emitted_in v c) item items same
 
 pub emitted_unnamed : (v : Version) (c : ChannelKey) (item : Item) (items : List Item) → names c item ≡ false → emitted v c (item ∷ items) ≡ emitted v c items
 emitted_unnamed v c item items e = emitted_same v c item items (emitted_in_unnamed v c item items e)

@@ -14,7 +14,7 @@ use Rattle.mux_items.proofs.Emission.{emitted_in_more, emitted_in_bound, no_cut,
 use Rattle.mux_items.proofs.Permits.{write_permits, complete_permits}
 use Rattle.mux_items.proofs.Applied.{allowed_tail}
 use Rattle.mux_items.proofs.Taking.{completion_in_more, rejected_more, written_once_completed}
-use Rattle.mux_items.proofs.Open.{uncut, accepted_step, accepted_heard, rejected_terminated}
+use Rattle.mux_items.proofs.Open.{uncut_both, accepted_step, accepted_heard, rejected_terminated}
 use Rattle.mux_items.proofs.Offered.{offered_else, rejected_first, accepted_offered, never_written, never_completed}
 use Rattle.mux_items.proofs.Staging.{is_open}
 
@@ -111,7 +111,7 @@ still_over v c item items ok over = elim (cases_Bool (is_cut c (item ∷ items))
       let now = no_cut c (item ∷ items) whole in
       let older = no_cut_before c item items whole in
       let before = no_cut c items older in
-      let quiet = uncut c items older in
+      let quiet = uncut_both c items older in
       elim (over_by (has_terminated c items) (is_terminated_by_peer c items) (is_rejected c items) (is_finished v c items) quiet.0 quiet.1 over) [
         | inl r ↦
             let later = untouched v c (item ∷ items) ok (rejected_more c item items r) in

@@ -112,7 +112,7 @@ heard_unnamed c (Rejected place key body) items e = heard_same c key body items 
 heard_unnamed c item items e = refl
 
 pub never_came : (v : Version) (c : ChannelKey) (items : List Item) → Allowed v items → is_offered c items ≡ false → heard_at c items ≡ Fresh
-never_came v c items ok e = never c (heard_at c) (heard_unnamed c) (λ party items. refl) (λ cause items. refl) v items ok e
+never_came v c items ok e = never c (heard_at c) (heard_unnamed c) (λ party items e. e) (λ cause items e. e) v items ok e
 
 -- an own channel is accepted by a frame
 pub accepted_came : (v : Version) (c : ChannelKey) (items : List Item) → Allowed v items → c.own ≡ true → is_accepted v c items ≡ true → is_fresh (heard_at c items) ≡ false

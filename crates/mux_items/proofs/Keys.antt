@@ -1,6 +1,6 @@
 -- Whether two names of channels are the same.
 use Rattle.std.specs.Prelude.{Bool, true, false, not, ◌==◌}
-use Rattle.std.proofs.Common.{◌≡◌, ◌⊎◌, inl, inr, ℕ, refl, sym, arith}
+use Rattle.std.proofs.Common.{◌≡◌, ◌⊎◌, inl, inr, ℕ, refl, sym, subst, arith}
 use Rattle.std.proofs.lemmas.Bool.{and_parts, cases_Bool, eqb-true}
 use Rattle.std.proofs.lemmas.Bool.Decides.{nat_tests}
 use Rattle.mux_items.specs.declared.channel.ChannelKey.{ChannelKey}
@@ -38,6 +38,9 @@ pub same_key_true : (a b : ChannelKey) → same_key a b ≡ true → a ≡ b
 same_key_true a b e =
     let parts = and_parts (a.id == b.id) (same_bool a.own b.own) e in
     same_parts a.id b.id a.own b.own (eqb-true a.id b.id parts.0) (same_bool_true a.own b.own parts.1)
+
+pub same_key_turned : (a b : ChannelKey) → same_key a b ≡ true → same_key b a ≡ true
+same_key_turned a b e = subst (λ k. same_key k a ≡ true) (same_key_true a b e) (same_key_refl a)
 
 pub same_key_other : (a b : ChannelKey) → same_key (other_key a) (other_key b) ≡ same_key a b
 same_key_other a b = rw (same_bool-not a.own b.own) refl

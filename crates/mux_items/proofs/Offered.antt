@@ -16,7 +16,7 @@ use Rattle.mux_items.specs.Kept.{keys, is_known, has_bytes, is_kept, own_offers,
 use Rattle.mux_items.specs.Refusals.{frame_refusal}
 use Rattle.mux_items.specs.Applying.{Allowed, lacks_room}
 use Rattle.mux_items.proofs.Keys.{same_key_refl, same_key_true, key_cases}
-use Rattle.mux_items.proofs.Emission.{if_or, before_cut_cases}
+use Rattle.mux_items.proofs.Emission.{if_or, before_same}
 use Rattle.mux_items.proofs.Permits.{if_none, accept_permits, write_permits, read_permits, complete_permits, terminate_permits, later_permits}
 use Rattle.mux_items.proofs.Applied.{allowed_tail}
 use Rattle.mux_items.proofs.Taking.{finished_in}
@@ -143,25 +143,16 @@ elsewhere v c (Got place key ChannelTerminated) items ok common e = (unless_offe
 elsewhere v c (Got place key (ContentProcessed count)) items ok common e = (unless_offered key c items (later_permits v key (ContentProcessed count) items ok.0.unrefused).0 e, e)
 elsewhere v c (Rejected place key body) items ok common e = if_false (same_key key c) (is_offered c items) e
 
--- what other items, the handshake and the end leave as it was is as at the start
-pub never : {A : Type 0} (c : ChannelKey) (f : List Item → A) → ((item : Item) (items : List Item) → names c item ≡ false → f (item ∷ items) ≡ f items) → ((party : Party) (items : List Item) → f (Hello party ∷ items) ≡ f items) → ((cause : Cause) (items : List Item) → f (End cause ∷ items) ≡ f items)
+-- what other items leave unchanged, and the handshake and the end leave as at the start, is as at the start
+pub never : {A : Type 0} (c : ChannelKey) (f : List Item → A) → ((item : Item) (items : List Item) → names c item ≡ false → f (item ∷ items) ≡ f items)
+    → ((party : Party) (items : List Item) → f items ≡ f [] → f (Hello party ∷ items) ≡ f []) → ((cause : Cause) (items : List Item) → f items ≡ f [] → f (End cause ∷ items) ≡ f [])
     → (v : Version) (items : List Item) → Allowed v items → is_offered c items ≡ false → f items ≡ f []
 never c f skip hello over v [] ok e = refl
-never c f skip hello over v (Hello party ∷ items) ok e = hello party items ∙ never c f skip hello over v items ok.1 e
-never c f skip hello over v (End cause ∷ items) ok e = over cause items ∙ never c f skip hello over v items ok.1 e
+never c f skip hello over v (Hello party ∷ items) ok e = hello party items (never c f skip hello over v items ok.1 e)
+never c f skip hello over v (End cause ∷ items) ok e = over cause items (never c f skip hello over v items ok.1 e)
 never c f skip hello over v (item ∷ items) ok e =
     let on = elsewhere v c item items ok refl e in
     skip item items on.0 ∙ never c f skip hello over v items (allowed_tail v item items ok) on.1
-
-never_by : {A : Type 0} (c : ChannelKey) (f : List Item → A) → ((items : List Item) → f (restricted c items) ≡ f items) → ((party : Party) (items : List Item) → f (Hello party ∷ items) ≡ f items) → ((cause : Cause) (items : List Item) → f (End cause ∷ items) ≡ f items)
-    → (v : Version) (items : List Item) → Allowed v items → is_offered c items ≡ false → f items ≡ f []
-never_by c f same hello over v items ok e = never c f (skipped c f same) hello over v items ok e
-
-before_same : {A : Type 0} (c : ChannelKey) (f : List Item → A) (item : Item) (items : List Item) → f (item ∷ items) ≡ f items → f (before_cut c (item ∷ items)) ≡ f (before_cut c items)
-before_same c f item items same = elim (before_cut_cases c item items) [
-  | inl e ↦ ap f e
-  | inr e ↦ ap f e.0 ∙ (same ∙ sym (ap f e.1))
-]
 
 -- an item that completes nothing
 pub completion_same : (v : Version) (c : ChannelKey) (item : Item) (items : List Item) → completion_in v c (item ∷ items) ≡ completion_in v c items → completion_emitted v c (item ∷ items) ≡ completion_emitted v c items
@@ -171,21 +162,21 @@ pub finished_same : (v : Version) (c : ChannelKey) (item : Item) (items : List I
 finished_same v c item items e = before_same c (finished_in v c) item items e
 
 pub never_accepted : (v : Version) (c : ChannelKey) (items : List Item) → Allowed v items → is_offered c items ≡ false → is_accepted v c items ≡ false
-never_accepted v c items ok e = never_by c (is_accepted v c) (is_accepted-restricted v c) (λ party items. refl) (λ cause items. refl) v items ok e
+never_accepted v c items ok e = never c (is_accepted v c) (skipped c (is_accepted v c) (is_accepted-restricted v c)) (λ party items e. e) (λ cause items e. e) v items ok e
 
 pub accepted_offered : (v : Version) (c : ChannelKey) (items : List Item) → Allowed v items → is_accepted v c items ≡ true → is_offered c items ≡ true
 accepted_offered v c items ok e = true_from_ne_false (is_offered c items) (λ o. true≢false (sym e ∙ never_accepted v c items ok o))
 
 pub never_written : (v : Version) (c : ChannelKey) (items : List Item) → Allowed v items → is_offered c items ≡ false → written c items ≡ []
-never_written v c items ok e = never_by c (written c) (written-restricted c) (λ party items. refl) (λ cause items. refl) v items ok e
+never_written v c items ok e = never c (written c) (skipped c (written c) (written-restricted c)) (λ party items e. e) (λ cause items e. e) v items ok e
 
 pub never_completed : (v : Version) (c : ChannelKey) (items : List Item) → Allowed v items → is_offered c items ≡ false → has_completed c items ≡ false
-never_completed v c items ok e = never_by c (has_completed c) (has_completed-restricted c) (λ party items. refl) (λ cause items. refl) v items ok e
+never_completed v c items ok e = never c (has_completed c) (skipped c (has_completed c) (has_completed-restricted c)) (λ party items e. e) (λ cause items e. e) v items ok e
 
 pub never_done : (v : Version) (c : ChannelKey) (items : List Item) → Allowed v items → is_offered c items ≡ false → completion_emitted v c items ≡ false
-never_done v c items ok e = never_by c (completion_emitted v c) (completion_emitted-restricted v c) (λ party items. completion_same v c (Hello party) items refl) (λ cause items. refl) v items ok e
+never_done v c items ok e = never c (completion_emitted v c) (skipped c (completion_emitted v c) (completion_emitted-restricted v c)) (λ party items e. completion_same v c (Hello party) items refl ∙ e) (λ cause items e. e) v items ok e
 
 pub never_over : (v : Version) (c : ChannelKey) (items : List Item) → Allowed v items → is_offered c items ≡ false → termination_emitted v c items ≡ false
 never_over v c items ok e =
-    never_by c (termination_emitted v c) (termination_emitted-restricted v c)
-    (λ party items. ap (λ b. has_terminated c items || is_terminated_by_peer c items || is_rejected c items || b) (finished_same v c (Hello party) items refl)) (λ cause items. refl) v items ok e
+    never c (termination_emitted v c) (skipped c (termination_emitted v c) (termination_emitted-restricted v c))
+    (λ party items e. ap (λ b. has_terminated c items || is_terminated_by_peer c items || is_rejected c items || b) (finished_same v c (Hello party) items refl) ∙ e) (λ cause items e. e) v items ok e

@@ -18,18 +18,18 @@ uncut_if true x e = absurd (true≢false e)
 uncut_if false x e = (refl, e)
 
 -- without a cut neither side terminated the channel
-pub uncut : (c : ChannelKey) (items : List Item) → is_cut c items ≡ false → (has_terminated c items ≡ false) × (is_terminated_by_peer c items ≡ false)
-uncut c [] e = (refl, refl)
-uncut c (DidTerminate key ∷ items) e =
+pub uncut_both : (c : ChannelKey) (items : List Item) → is_cut c items ≡ false → (has_terminated c items ≡ false) × (is_terminated_by_peer c items ≡ false)
+uncut_both c [] e = (refl, refl)
+uncut_both c (DidTerminate key ∷ items) e =
     let parts = uncut_if (same_key key c) (is_cut c items) e in
-    let before = uncut c items parts.1 in
+    let before = uncut_both c items parts.1 in
     (ap (λ b. if b then true else has_terminated c items) parts.0 ∙ before.0, before.1)
-uncut c (Got place key ChannelTerminated ∷ items) e =
+uncut_both c (Got place key ChannelTerminated ∷ items) e =
     let parts = uncut_if (same_key key c) (is_cut c items) e in
-    let before = uncut c items parts.1 in
+    let before = uncut_both c items parts.1 in
     (before.0, ap (λ b. if b then true else is_terminated_by_peer c items) parts.0 ∙ before.1)
-uncut c (End cause ∷ items) e = absurd (true≢false e)
-uncut c (item ∷ items) e = uncut c items e
+uncut_both c (End cause ∷ items) e = absurd (true≢false e)
+uncut_both c (item ∷ items) e = uncut_both c items e
 
 -- and where the end runs there is no other cut
 running_uncut : (c : ChannelKey) (items : List Item) → is_running items ≡ true → has_terminated c items ≡ false → is_terminated_by_peer c items ≡ false → is_cut c items ≡ false
@@ -44,13 +44,13 @@ running_uncut c (End cause ∷ items) runs here peer = absurd (false≢true runs
 running_uncut c (item ∷ items) runs here peer = running_uncut c items runs here peer
 
 -- neither side terminated the channel, and it wasn't rejected
-pub record IsOpen (c : ChannelKey) (items : List Item) : Type 0 where
+pub record IsUnterminated (c : ChannelKey) (items : List Item) : Type 0 where
   pub here : has_terminated c items ≡ false
   pub peer : is_terminated_by_peer c items ≡ false
   pub unrejected : is_rejected c items ≡ false
 
-pub heard_open : (v : Version) (c : ChannelKey) (items : List Item) → termination_emitted v c items ≡ false → IsOpen c items
-heard_open v c items e =
+pub unterminated : (v : Version) (c : ChannelKey) (items : List Item) → termination_emitted v c items ≡ false → IsUnterminated c items
+unterminated v c items e =
     let three = or_parts (has_terminated c items || is_terminated_by_peer c items || is_rejected c items) (is_finished v c items) e in
     let two = or_parts (has_terminated c items || is_terminated_by_peer c items) (is_rejected c items) three.0 in
     let parts = or_parts (has_terminated c items) (is_terminated_by_peer c items) two.0 in
@@ -58,12 +58,12 @@ heard_open v c items e =
 
 pub heard_uncut : (v : Version) (c : ChannelKey) (items : List Item) → is_running items ≡ true → termination_emitted v c items ≡ false → is_cut c items ≡ false
 heard_uncut v c items runs e =
-    let parts = heard_open v c items e in
+    let parts = unterminated v c items e in
     running_uncut c items runs parts.here parts.peer
 
 pub undropped : (v : Version) (c : ChannelKey) (items : List Item) → termination_emitted v c items ≡ false → is_dropped v c items ≡ false
 undropped v c items e =
-    let parts = heard_open v c items e in
+    let parts = unterminated v c items e in
     rw (parts.here, parts.peer) refl
 
 pub rejected_terminated : (v : Version) (c : ChannelKey) (items : List Item) → is_rejected c items ≡ true → termination_emitted v c items ≡ true
@@ -83,13 +83,13 @@ accepted_step v c (DidAccept key size) items e same = ap (λ b. if same_key key 
 accepted_step v c (Got place key (OfferAccepted size)) items e same = ap (λ b. if same_key key c then true else b) same ∙ sym (heeded (same_key key c) (termination_emitted v c items) true (is_accepted v c items) e)
 accepted_step v c item items e same = same
 
-granted_step : (v : Version) (c : ChannelKey) (item : Item) (items : List Item) → termination_emitted v c items ≡ false → granted_in c items ≡ granted v c items → granted_in c (item ∷ items) ≡ granted v c (item ∷ items)
+pub granted_step : (v : Version) (c : ChannelKey) (item : Item) (items : List Item) → termination_emitted v c items ≡ false → granted_in c items ≡ granted v c items → granted_in c (item ∷ items) ≡ granted v c (item ∷ items)
 granted_step v c (Got place key (Offer name size)) items e same = ap (λ n. if same_key key c then n + window_of size else n) same ∙ sym (heeded (same_key key c) (termination_emitted v c items) (granted v c items + window_of size) (granted v c items) e)
 granted_step v c (Got place key (OfferAccepted size)) items e same = ap (λ n. if same_key key c then n + window_of size else n) same ∙ sym (heeded (same_key key c) (termination_emitted v c items) (granted v c items + window_of size) (granted v c items) e)
 granted_step v c (Got place key (ContentProcessed count)) items e same = ap (λ n. if same_key key c then n + count else n) same ∙ sym (heeded (same_key key c) (termination_emitted v c items) (granted v c items + count) (granted v c items) e)
 granted_step v c item items e same = same
 
-completed_step : (v : Version) (c : ChannelKey) (item : Item) (items : List Item) → termination_emitted v c items ≡ false → is_completed_in c items ≡ is_completed v c items → is_completed_in c (item ∷ items) ≡ is_completed v c (item ∷ items)
+pub completed_step : (v : Version) (c : ChannelKey) (item : Item) (items : List Item) → termination_emitted v c items ≡ false → is_completed_in c items ≡ is_completed v c items → is_completed_in c (item ∷ items) ≡ is_completed v c (item ∷ items)
 completed_step v c (Got place key ContentWritingCompleted) items e same = ap (λ b. if same_key key c then true else b) same ∙ sym (heeded (same_key key c) (termination_emitted v c items) true (is_completed v c items) e)
 completed_step v c item items e same = same
 

@@ -14,9 +14,9 @@ use Rattle.mux_items.proofs.Emission.{before_cut_cases, accepted_in_more}
 use Rattle.mux_items.proofs.Applied.{allowed_tail}
 use Rattle.mux_items.proofs.Taking.{termination_more}
 use Rattle.mux_items.proofs.Apart.{skipped, completion_emitted-restricted, termination_unnamed, accepted_unnamed}
-use Rattle.mux_items.proofs.Staging.{Stage, Fresh, Open, Done, Over, next_stage, stage_with, stage_after, is_open, stage_by, stage_at}
+use Rattle.mux_items.proofs.Staging.{Stage, Fresh, Open, Done, Over, Wrong, next_stage, stage_with, stage_after, is_open, stage_by, stage_at}
 use Rattle.mux_items.proofs.Permits.{accept_permits, acceptance_permits}
-use Rattle.mux_items.proofs.Window.{unheeded}
+use Rattle.mux_items.proofs.Window.{unheeded_over}
 use Rattle.mux_items.proofs.Open.{accepted_heard}
 use Rattle.mux_items.proofs.Exact.{rejected_over}
 use Rattle.mux_items.proofs.Offered.{heard_first, rejected_first, offered_first, never_over, never_done, never_accepted, completion_same, finished_same}
@@ -288,7 +288,7 @@ got_opens v place c (Offer name size) items ok = open_same v c (Got place c (Off
 got_opens v place c (OfferAccepted size) items ok = elim (cases_Bool c.own) [
   | inl own ↦ open_same v c (Got place c (OfferAccepted size)) items true own refl
   | inr own ↦ elim (cases_Bool (termination_emitted v c items)) [
-    | inl over ↦ open_same v c (Got place c (OfferAccepted size)) items false own (unheeded (same_key c c) (termination_emitted v c items) (is_accepted v c items) over)
+    | inl over ↦ open_same v c (Got place c (OfferAccepted size)) items false own (unheeded_over (same_key c c) (termination_emitted v c items) (is_accepted v c items) over)
     | inr heard ↦ absurd (true≢false (sym (acceptance_permits v c size items ok.0.unrefused heard) ∙ own))
   ]
 ]

@@ -36,10 +36,10 @@ by_peer_emitted v c items e =
     (or_left (has_terminated c items || is_terminated_by_peer c items) (is_rejected c items)
     (or_right (has_terminated c items) (is_terminated_by_peer c items) e))
 
-pub unheeded : (same terminated accepted : Bool) → terminated ≡ true → (if same && not terminated then true else accepted) ≡ accepted
-unheeded true true accepted e = refl
-unheeded false true accepted e = refl
-unheeded same false accepted e = absurd (false≢true e)
+pub unheeded_over : (same terminated accepted : Bool) → terminated ≡ true → (if same && not terminated then true else accepted) ≡ accepted
+unheeded_over true true accepted e = refl
+unheeded_over false true accepted e = refl
+unheeded_over same false accepted e = absurd (false≢true e)
 
 -- a channel isn't accepted after the own termination
 pub accepted_quiet : (v : Version) (c : ChannelKey) (item : Item) (items : List Item) → termination_emitted v c items ≡ true → Allowed v (item ∷ items) → is_accepted v c (item ∷ items) ≡ is_accepted v c items
@@ -47,7 +47,7 @@ accepted_quiet v c (DidAccept key size) items e ok = elim (cases_Bool (same_key 
   | inl same ↦ absurd (true≢false (sym e ∙ subst (λ k. termination_emitted v k items ≡ false) (same_key_true key c same) (accept_permits v key size items ok.0).heard))
   | inr differ ↦ rw differ refl
 ]
-accepted_quiet v c (Got place key (OfferAccepted size)) items e ok = unheeded (same_key key c) (termination_emitted v c items) (is_accepted v c items) e
+accepted_quiet v c (Got place key (OfferAccepted size)) items e ok = unheeded_over (same_key key c) (termination_emitted v c items) (is_accepted v c items) e
 accepted_quiet v c item items e ok = refl
 
 dropped_from : (h p a h' p' a' : Bool) → (h ≡ true → h' ≡ true) → (p ≡ true → p' ≡ true) → (p ≡ true → a' ≡ a) → (h || (p && not a)) ≡ true → (h' || (p' && not a')) ≡ true

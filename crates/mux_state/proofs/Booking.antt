@@ -16,14 +16,16 @@ use Rattle.mux_items.specs.Views.{precedes, insert_key, known_keys}
 use Rattle.mux_items.specs.Applying.{Allowed}
 use Rattle.mux_items.proofs.Applied.{allowed_tail}
 use Rattle.mux_items.proofs.Keys.{same_key_refl, same_key_true}
+use Rattle.mux_items.proofs.Offered.{heard_first, known_offered, offered_first, rejected_first}
+use Rattle.mux_items.proofs.Permits.{accept_permits, complete_permits, read_permits, terminate_permits, write_permits}
 use Rattle.mux_state.specs.State.{ChannelState, channel_at, state_of}
 use Rattle.mux_state.specs.Next.{offered_state, heard_state, closed_state, ended_state, settled, next_state, next_on}
 use Rattle.mux_state.specs.Tests.{tally_in}
 use Rattle.mux_state.specs.Book.{Kept, Gone, standing_of, entry_of, rejected_keys, book_of, moved, changed, changed_entry, change_at, insert_entry, entry_at, AreApart, next_entries, next_party, next_cause, next_rejected, next_book}
-use Rattle.mux_state.proofs.Step.{accept_tells, write_tells, read_tells, complete_tells, terminate_tells, settled_closed}
-use Rattle.mux_state.proofs.Known.{clash, known_offered, fresh_offer}
+use Rattle.mux_state.proofs.Step.{settled_closed}
+use Rattle.mux_state.proofs.Known.{clash}
 use Rattle.mux_state.proofs.Ignored.{settled_sent}
-use Rattle.mux_state.proofs.Law.{fresh_did, fresh_rejection, channel_step, channel_offered, channel_heard}
+use Rattle.mux_state.proofs.Law.{channel_step, channel_offered, channel_heard}
 use Rattle.mux_state.proofs.Refusing.{kept_by_state}
 use Rattle.mux_state.proofs.Orders.{any_in_order, unknown_before, known_apart}
 use Rattle.mux_state.proofs.Books.{known_unrejected, IsGone, gone_is}
@@ -59,19 +61,19 @@ by_key f c key b same e = subst (λ k. f k ≡ b) (same_key_true key c same) e
 -- a channel that isn't kept any more stays as it was
 gone_named : (v : Version) (c : ChannelKey) (item : Item) (items : List Item) → names c item ≡ true → Allowed v (item ∷ items) → is_known c items ≡ true → is_kept v c items ≡ false → IsGone v c items → moved (next_state item (channel_at v c items)) ≡ Gone (tally_in (channel_at v c items))
 gone_named v c (Hello party) items named ok known gone g = moved_gone (channel_at v c items) g.sent g.peer g.read
-gone_named v c (DidOffer key name size) items named ok known gone g = clash (is_offered c items) (known_offered c items known) (by_key (λ k. is_offered k items) c key false named (fresh_did v key name size items ok).1)
-gone_named v c (DidAccept key size) items named ok known gone g = clash (is_kept v c items) (by_key (λ k. is_kept v k items) c key true named (accept_tells v key size items ok.0).1) gone
-gone_named v c (DidWrite key bytes) items named ok known gone g = clash (is_kept v c items) (by_key (λ k. is_kept v k items) c key true named (write_tells v key bytes items ok.0).1) gone
-gone_named v c (DidRead key max) items named ok known gone g = clash (is_kept v c items) (by_key (λ k. is_kept v k items) c key true named (read_tells v key items ok.0)) gone
-gone_named v c (DidComplete key) items named ok known gone g = clash (is_kept v c items) (by_key (λ k. is_kept v k items) c key true named (complete_tells v key items ok.0).1) gone
-gone_named v c (DidTerminate key) items named ok known gone g = clash (is_kept v c items) (by_key (λ k. is_kept v k items) c key true named (terminate_tells v key items ok.0).1) gone
-gone_named v c (Got place key (Offer name size)) items named ok known gone g = clash (is_offered c items) (known_offered c items known) (by_key (λ k. is_offered k items) c key false named (fresh_offer v key name size items ok.0.unrefused).1)
+gone_named v c (DidOffer key name size) items named ok known gone g = clash (is_offered c items) (known_offered c items known) (by_key (λ k. is_offered k items) c key false named (offered_first v key name size items ok).1)
+gone_named v c (DidAccept key size) items named ok known gone g = clash (is_kept v c items) (by_key (λ k. is_kept v k items) c key true named (accept_permits v key size items ok.0).kept) gone
+gone_named v c (DidWrite key bytes) items named ok known gone g = clash (is_kept v c items) (by_key (λ k. is_kept v k items) c key true named (write_permits v key bytes items ok.0).call.kept) gone
+gone_named v c (DidRead key max) items named ok known gone g = clash (is_kept v c items) (by_key (λ k. is_kept v k items) c key true named (read_permits v key items ok.0)) gone
+gone_named v c (DidComplete key) items named ok known gone g = clash (is_kept v c items) (by_key (λ k. is_kept v k items) c key true named (complete_permits v key items ok.0).call.kept) gone
+gone_named v c (DidTerminate key) items named ok known gone g = clash (is_kept v c items) (by_key (λ k. is_kept v k items) c key true named (terminate_permits v key items ok.0).kept) gone
+gone_named v c (Got place key (Offer name size)) items named ok known gone g = clash (is_offered c items) (known_offered c items known) (by_key (λ k. is_offered k items) c key false named (heard_first v key name size items ok.0.unrefused).1)
 gone_named v c (Got place key (OfferAccepted size)) items named ok known gone g = sent_gone (channel_at v c items) _ g.sent g.peer g.read
 gone_named v c (Got place key (Content bytes)) items named ok known gone g = sent_gone (channel_at v c items) _ g.sent g.peer g.read
 gone_named v c (Got place key ContentWritingCompleted) items named ok known gone g = sent_gone (channel_at v c items) _ g.sent g.peer g.read
 gone_named v c (Got place key ChannelTerminated) items named ok known gone g = closed_gone (channel_at v c items) g.sent g.peer g.read
 gone_named v c (Got place key (ContentProcessed count)) items named ok known gone g = sent_gone (channel_at v c items) _ g.sent g.peer g.read
-gone_named v c (Rejected place key body) items named ok known gone g = clash (is_offered c items) (known_offered c items known) (by_key (λ k. is_offered k items) c key false named (fresh_rejection v place key body items ok).1)
+gone_named v c (Rejected place key body) items named ok known gone g = clash (is_offered c items) (known_offered c items known) (by_key (λ k. is_offered k items) c key false named (rejected_first v key body items ok.0.unrefused ok.1).1)
 gone_named v c (End cause) items named ok known gone g = moved_gone (ended_state (channel_at v c items)) g.sent g.peer g.read
 
 pub known_more : (c : ChannelKey) (item : Item) (items : List Item) → is_known c items ≡ true → is_known c (item ∷ items) ≡ true
@@ -175,7 +177,7 @@ hello_entries v party items ok = map_same (entry_of v (Hello party ∷ items)) (
 entries_step : (v : Version) (item : Item) (items : List Item) → Allowed v (item ∷ items) → map (entry_of v (item ∷ items)) (known_keys (item ∷ items)) ≡ next_entries v item (map (entry_of v items) (known_keys items))
 entries_step v (Hello party) items ok = hello_entries v party items ok
 entries_step v (DidOffer key name size) items ok =
-    entries_inserted v key (DidOffer key name size) items (offered_state v size) ok (λ c. refl) refl (unknown_before key items (fresh_did v key name size items ok).1)
+    entries_inserted v key (DidOffer key name size) items (offered_state v size) ok (λ c. refl) refl (unknown_before key items (offered_first v key name size items ok).1)
     (or_left (same_key key key) (is_known key items) (same_key_refl key)) (channel_offered v key name size items ok) refl
 entries_step v (DidAccept key size) items ok = entries_changed v key (DidAccept key size) items ok (λ c. refl) refl
 entries_step v (DidWrite key bytes) items ok = entries_changed v key (DidWrite key bytes) items ok (λ c. refl) refl
@@ -183,7 +185,7 @@ entries_step v (DidRead key max) items ok = entries_changed v key (DidRead key m
 entries_step v (DidComplete key) items ok = entries_changed v key (DidComplete key) items ok (λ c. refl) refl
 entries_step v (DidTerminate key) items ok = entries_changed v key (DidTerminate key) items ok (λ c. refl) refl
 entries_step v (Got place key (Offer name size)) items ok =
-    entries_inserted v key (Got place key (Offer name size)) items (heard_state v (window_of size)) ok (λ c. refl) refl (unknown_before key items (fresh_offer v key name size items ok.0.unrefused).1)
+    entries_inserted v key (Got place key (Offer name size)) items (heard_state v (window_of size)) ok (λ c. refl) refl (unknown_before key items (heard_first v key name size items ok.0.unrefused).1)
     (or_left (same_key key key) (is_known key items) (same_key_refl key)) (channel_heard v place key name size items ok) refl
 entries_step v (Got place key (OfferAccepted size)) items ok = entries_changed v key (Got place key (OfferAccepted size)) items ok (λ c. refl) refl
 entries_step v (Got place key (Content bytes)) items ok = entries_changed v key (Got place key (Content bytes)) items ok (λ c. refl) refl
@@ -191,7 +193,7 @@ entries_step v (Got place key ContentWritingCompleted) items ok = entries_change
 entries_step v (Got place key ChannelTerminated) items ok = entries_changed v key (Got place key ChannelTerminated) items ok (λ c. refl) refl
 entries_step v (Got place key (ContentProcessed count)) items ok = entries_changed v key (Got place key (ContentProcessed count)) items ok (λ c. refl) refl
 entries_step v (Rejected place key body) items ok = entries_same v (Rejected place key body) items ok
-    (λ c known. false_from_ne_true (same_key key c) (λ same. true≢false (sym known ∙ (ap (λ k. is_known k items) (sym (same_key_true key c same)) ∙ unknown_before key items (fresh_rejection v place key body items ok).1))))
+    (λ c known. false_from_ne_true (same_key key c) (λ same. true≢false (sym known ∙ (ap (λ k. is_known k items) (sym (same_key_true key c same)) ∙ unknown_before key items (rejected_first v key body items ok.0.unrefused ok.1).1))))
 entries_step v (End cause) items ok = ended_entries v cause items ok (known_keys items) (λ c e. known_in_order c items e)
 
 party_step : (item : Item) (items : List Item) → greeting (item ∷ items) ≡ next_party item (greeting items)

@@ -2,14 +2,14 @@
 use Rattle.std.specs.Prelude.{ℕ, ◌+◌, List, [], ◌∷◌, ◌++◌, length, map, filter, Bool, true, false, not, ◌&&◌, ◌||◌, nat_le, if◌then◌else◌, Some, None}
 use Rattle.std.specs.List.{list_any, fold}
 use Rattle.std.proofs.Common.{◌≡◌, inl, inr, refl, sym, ◌∙◌, ap, subst, arith}
-use Rattle.std.proofs.lemmas.Bool.{cases_Bool, true≢false, and_parts, or_parts, or_left, or_right, not-false}
+use Rattle.std.proofs.lemmas.Bool.{cases_Bool, true≢false, and_parts, or_parts, not-false}
 use Rattle.wire_base.specs.declared.frame.Version.{Version}
 use Rattle.wire_base.specs.declared.reason.Reason.TheVariants as reason
 use Rattle.mux_items.specs.declared.channel.ChannelKey.{ChannelKey}
 use Rattle.mux_items.specs.declared.channel.Tally.{Tally}
 use Rattle.mux_items.specs.Bodies.{FrameBody, Offer, OfferAccepted, Content, ContentWritingCompleted, ChannelTerminated, ContentProcessed, same_key}
 use Rattle.mux_items.specs.Items.{Item, DidOffer, Got, Rejected, ended, party_of}
-use Rattle.mux_items.specs.Lists.{is_offered, is_rejected, is_closed, is_finished, has_terminated, unread, window, termination_emitted, is_terminated_by_peer}
+use Rattle.mux_items.specs.Lists.{is_offered, is_rejected, is_closed, unread, window, termination_emitted, is_terminated_by_peer}
 use Rattle.mux_items.specs.Limits.{most_channels}
 use Rattle.mux_items.specs.Kept.{keys, is_known, has_bytes, is_kept, kept_keys, own_windows, own_offers, own_id, next_key}
 use Rattle.mux_items.specs.Refusals.{unless_ended, accept_refusal, write_refusal, read_refusal, complete_refusal, terminate_refusal, offer_refusal, heeded_refusal, later_refusal, frame_refusal}
@@ -17,11 +17,12 @@ use Rattle.mux_items.specs.Applying.{Allowed, lacks_room, is_offer}
 use Rattle.mux_items.specs.Views.{view_of, tally_of, known_keys}
 use Rattle.mux_items.proofs.Keys.{same_key_true}
 use Rattle.mux_items.proofs.Applied.{allowed_tail}
+use Rattle.mux_items.proofs.Offered.{heard_first, known_offered, offered_first, rejected_first}
+use Rattle.mux_items.proofs.Open.{rejected_terminated}
 use Rattle.mux_state.specs.State.{ChannelState, channel_at, kept_state}
 use Rattle.mux_state.specs.Tests.{on_kept, accept_test, write_test, read_test, writing_test, open_test, view_on, tally_in, frame_test}
 use Rattle.mux_state.specs.Book.{Standing, Kept, Gone, standing_of, entry_of, rejected_keys, book_of, find, found, kept_in, is_found, has_offer, is_kept_standing, kept_window, kept_count, windows_in, own_count, drawn_key, offer_test, has_room, frame_on_found, frame_in, tally_found, known_in}
-use Rattle.mux_state.proofs.Known.{clash, known_offered, fresh_offer}
-use Rattle.mux_state.proofs.Law.{fresh_did, fresh_rejection}
+use Rattle.mux_state.proofs.Known.{clash}
 use Rattle.mux_state.proofs.Orders.{turned, any_in_order, count_in_order, sum_in_order}
 use Rattle.mux_state.proofs.Refusing.{accept_by_state, write_by_state, read_by_state, complete_by_state, terminate_by_state, frame_by_state, view_by_state}
 
@@ -87,7 +88,7 @@ own_of v items (c ∷ cs) = elim (cases_Bool c.own) [
 own_keys : (v : Version) (items : List Item) → Allowed v items → length (filter (λ c. c.own) (keys items)) ≡ own_offers items
 own_keys v [] ok = refl
 own_keys v (DidOffer key name size ∷ items) ok = rw (ap (λ k. k.own) ok.1) (omega (arith, own_keys v items ok.2))
-own_keys v (Got place key (Offer name size) ∷ items) ok = rw ((fresh_offer v key name size items ok.0.unrefused).0) (own_keys v items ok.2)
+own_keys v (Got place key (Offer name size) ∷ items) ok = rw ((heard_first v key name size items ok.0.unrefused).0) (own_keys v items ok.2)
 own_keys v (item ∷ items) ok = own_keys v items (allowed_tail v item items ok)
 
 pub own_count_is : (v : Version) (items : List Item) → Allowed v items → own_count (book_of v items) ≡ own_offers items
@@ -166,15 +167,15 @@ older_known c key items differ e = sym (ap (λ b. b || is_known c items) differ)
 pub known_unrejected : (v : Version) (c : ChannelKey) (items : List Item) → Allowed v items → is_known c items ≡ true → is_rejected c items ≡ false
 known_unrejected v c [] ok e = refl
 known_unrejected v c (DidOffer key name size ∷ items) ok e = elim (cases_Bool (same_key c key)) [
-  | inl same ↦ unoffered_unrejected c items (subst (λ k. is_offered k items ≡ false) (sym (same_key_true c key same)) (fresh_did v key name size items ok).1)
+  | inl same ↦ unoffered_unrejected c items (subst (λ k. is_offered k items ≡ false) (sym (same_key_true c key same)) (offered_first v key name size items ok).1)
   | inr differ ↦ known_unrejected v c items ok.2 (older_known c key items differ e)
 ]
 known_unrejected v c (Got place key (Offer name size) ∷ items) ok e = elim (cases_Bool (same_key c key)) [
-  | inl same ↦ unoffered_unrejected c items (subst (λ k. is_offered k items ≡ false) (sym (same_key_true c key same)) (fresh_offer v key name size items ok.0.unrefused).1)
+  | inl same ↦ unoffered_unrejected c items (subst (λ k. is_offered k items ≡ false) (sym (same_key_true c key same)) (heard_first v key name size items ok.0.unrefused).1)
   | inr differ ↦ known_unrejected v c items ok.2 (older_known c key items differ e)
 ]
 known_unrejected v c (Rejected place key body ∷ items) ok e = elim (cases_Bool (same_key key c)) [
-  | inl same ↦ clash (is_offered c items) (known_offered c items e) (subst (λ k. is_offered k items ≡ false) (same_key_true key c same) (fresh_rejection v place key body items ok).1)
+  | inl same ↦ clash (is_offered c items) (known_offered c items e) (subst (λ k. is_offered k items ≡ false) (same_key_true key c same) (rejected_first v key body items ok.0.unrefused ok.1).1)
   | inr differ ↦ ap (λ b. if b then true else is_rejected c items) differ ∙ known_unrejected v c items ok.2 e
 ]
 known_unrejected v c (item ∷ items) ok e = known_unrejected v c items (allowed_tail v item items ok) e
@@ -196,9 +197,6 @@ gone_is v c items known e =
     let closed = and_parts (termination_emitted v c items) (is_terminated_by_peer c items) (not-false (is_closed v c items) parts.0) in
     record { sent = closed.0; peer = closed.1; read = no_bytes (unread v c items) parts.1 }
 
-pub rejected_sent : (v : Version) (c : ChannelKey) (items : List Item) → is_rejected c items ≡ true → termination_emitted v c items ≡ true
-rejected_sent v c items e = or_left (has_terminated c items || is_terminated_by_peer c items || is_rejected c items) (is_finished v c items) (or_right (has_terminated c items || is_terminated_by_peer c items) (is_rejected c items) e)
-
 pub or_last : (x y : Bool) → x ≡ false → (x || y) ≡ true → y ≡ true
 or_last true y e f = absurd (true≢false e)
 or_last false y e f = f
@@ -213,7 +211,7 @@ test_found v c body items offered = elim (cases_Bool (is_known c items)) [
     | inl kept ↦ sym (ap (frame_on_found body) (found_is v c items ∙ (λ i. if known i then Some (if kept i then Kept (channel_at v c items) else Gone (tally_in (channel_at v c items))) else None)))
     | inr gone ↦ test_sent v c body items (gone_is v c items known gone).sent ∙ sym (ap (frame_on_found body) (found_is v c items ∙ (λ i. if known i then Some (if gone i then Kept (channel_at v c items) else Gone (tally_in (channel_at v c items))) else None)))
   ]
-  | inr unknown ↦ test_sent v c body items (rejected_sent v c items (or_last (is_known c items) (is_rejected c items) unknown (offered_is c items ∙ offered)))
+  | inr unknown ↦ test_sent v c body items (rejected_terminated v c items (or_last (is_known c items) (is_rejected c items) unknown (offered_is c items ∙ offered)))
       ∙ sym (ap (frame_on_found body) (found_is v c items ∙ (λ i. if unknown i then Some (standing_of v c items) else None)))
 ]
 

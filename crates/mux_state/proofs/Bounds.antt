@@ -15,11 +15,11 @@ use Rattle.mux_items.specs.Kept.{is_known, is_kept, kept_keys, own_offers, own_w
 use Rattle.mux_items.specs.Refusals.{is_bad_window, is_ready}
 use Rattle.mux_items.specs.Applying.{Allowed}
 use Rattle.mux_items.proofs.Applied.{allowed_tail}
+use Rattle.mux_items.proofs.Offered.{own_bound}
+use Rattle.mux_items.proofs.Permits.{unless_none}
 use Rattle.mux_state.specs.State.{ChannelState, channel_at}
 use Rattle.mux_state.specs.Tests.{stays_kept, tally_in}
 use Rattle.mux_state.specs.Book.{Kept, Gone, AreApart, book_of, found, has_offer, own_count, known_in}
-use Rattle.mux_state.proofs.Step.{unless_none}
-use Rattle.mux_state.proofs.Law.{own_bound}
 use Rattle.mux_state.proofs.Orders.{known_apart}
 use Rattle.mux_state.proofs.Refusing.{kept_by_state}
 use Rattle.mux_state.proofs.Books.{found_is, has_offer_is, known_by_book, own_count_is}

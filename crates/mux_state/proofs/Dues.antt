@@ -1,7 +1,7 @@
 -- The frames that an item makes due, and its event, by what an end keeps.
 use Rattle.std.specs.Prelude.{ℕ, List, [], ◌∷◌, ◌++◌, length, take, drop, Bool, true, false, not, ◌&&◌, ◌||◌, ◌==◌, if◌then◌else◌, Some, None}
 use Rattle.std.proofs.Common.{◌≡◌, inl, inr, refl, sym, ◌∙◌, ap, subst, arith, length-take}
-use Rattle.std.proofs.lemmas.Bool.{cases_Bool, true≢false, false≢true, and_parts, and_left, and_right, or_left, or_right, false_from_ne_true}
+use Rattle.std.proofs.lemmas.Bool.{cases_Bool, false≢true, and_parts, and_left, and_right, or_left, or_right, false_from_ne_true}
 use Rattle.std.proofs.lemmas.List.{drop_all}
 use Rattle.wire_base.specs.declared.frame.Version.{Version}
 use Rattle.mux_items.specs.declared.channel.ChannelKey.{ChannelKey}
@@ -13,19 +13,20 @@ use Rattle.mux_items.specs.Kept.{is_known, is_kept}
 use Rattle.mux_items.specs.Due.{content_frames, span, newly_emitted, completes, terminates, due}
 use Rattle.mux_items.specs.Applying.{Allowed, frame_event}
 use Rattle.mux_items.proofs.Keys.{same_key_refl, same_key_true}
-use Rattle.mux_items.proofs.Applied.{allowed_tail}
 use Rattle.mux_items.proofs.Emission.{before_cut_cases}
 use Rattle.mux_items.proofs.Taking.{completed_more}
+use Rattle.mux_items.proofs.Emits.{untouched}
+use Rattle.mux_items.proofs.Offered.{heard_first, offered_first}
+use Rattle.mux_items.proofs.Open.{rejected_terminated}
+use Rattle.mux_items.proofs.Permits.{accept_permits, complete_permits, later_permits, read_permits, terminate_permits, write_permits}
+use Rattle.mux_state.proofs.Step.{plain}
 use Rattle.mux_state.specs.State.{ChannelState, channel_at}
 use Rattle.mux_state.specs.Next.{frames_due, framed_state}
 use Rattle.mux_state.specs.Tests.{due_in, tally_in}
 use Rattle.mux_state.specs.Book.{Kept, Gone, standing_of, book_of, found, due_found, due_of_book, event_found, event_in}
-use Rattle.mux_state.proofs.Step.{accept_tells, write_tells, read_tells, complete_tells, terminate_tells, later_tells}
-use Rattle.mux_state.proofs.Known.{clash, fresh_offer, blank_before}
-use Rattle.mux_state.proofs.Law.{fresh_did, fresh_rejection}
 use Rattle.mux_state.proofs.Sending.{channel_sends, frames_sent, nothing_ends, closed_frames}
 use Rattle.mux_state.proofs.Refusing.{event_by_state}
-use Rattle.mux_state.proofs.Books.{known_unrejected, unoffered_unrejected, rejected_sent, or_last, gone_is, found_is, offered_is}
+use Rattle.mux_state.proofs.Books.{known_unrejected, unoffered_unrejected, or_last, gone_is, found_is, offered_is}
 
 kept_known : (v : Version) (c : ChannelKey) (items : List Item) → is_kept v c items ≡ true → is_known c items ≡ true
 kept_known v c items e = (and_parts (is_known c items) _ e).0
@@ -38,35 +39,6 @@ no_length [] e = refl
 no_length (byte ∷ bytes) e = absurd (omega (arith, e))
 
 -- nothing is written or completed, as on a rejected channel
-pub record IsUntouched (c : ChannelKey) (items : List Item) : Type 0 where
-  pub unwritten : written c items ≡ []
-  pub uncompleted : has_completed c items ≡ false
-
-untouched_blank : (v : Version) (c : ChannelKey) (items : List Item) → Allowed v items → is_offered c items ≡ false → IsUntouched c items
-untouched_blank v c items ok e =
-    let nothing = blank_before v c items ok e in
-    record { unwritten = no_length (written c items) (ap (λ s. s.written) nothing); uncompleted = ap (λ s. s.completing) nothing }
-
-older_rejected : (b x : Bool) → b ≡ false → (if b then true else x) ≡ true → x ≡ true
-older_rejected true x e f = absurd (true≢false e)
-older_rejected false x e f = f
-
-pub untouched : (v : Version) (c : ChannelKey) (items : List Item) → Allowed v items → is_rejected c items ≡ true → IsUntouched c items
-untouched v c [] ok e = absurd (false≢true e)
-untouched v c (DidWrite key bytes ∷ items) ok e = elim (cases_Bool (same_key key c)) [
-  | inl same ↦ clash (is_rejected c items) e (kept_unrejected v c key items ok.1 same (write_tells v key bytes items ok.0).1)
-  | inr differ ↦ let older = untouched v c items ok.1 e in record { unwritten = rw differ older.unwritten; uncompleted = older.uncompleted }
-]
-untouched v c (DidComplete key ∷ items) ok e = elim (cases_Bool (same_key key c)) [
-  | inl same ↦ clash (is_rejected c items) e (kept_unrejected v c key items ok.1 same (complete_tells v key items ok.0).1)
-  | inr differ ↦ let older = untouched v c items ok.1 e in record { unwritten = older.unwritten; uncompleted = rw differ older.uncompleted }
-]
-untouched v c (Rejected place key body ∷ items) ok e = elim (cases_Bool (same_key key c)) [
-  | inl same ↦ let u = untouched_blank v c items ok.2 (subst (λ k. is_offered k items ≡ false) (same_key_true key c same) (fresh_rejection v place key body items ok).1) in record { unwritten = u.unwritten; uncompleted = u.uncompleted }
-  | inr differ ↦ let u = untouched v c items ok.2 (older_rejected (same_key key c) (is_rejected c items) differ e) in record { unwritten = u.unwritten; uncompleted = u.uncompleted }
-]
-untouched v c (item ∷ items) ok e = let u = untouched v c items (allowed_tail v item items ok) e in record { unwritten = u.unwritten; uncompleted = u.uncompleted }
-
 uncompleted_before : (c : ChannelKey) (items : List Item) → has_completed c items ≡ false → has_completed c (before_cut c items) ≡ false
 uncompleted_before c [] e = refl
 uncompleted_before c (item ∷ items) e = elim (before_cut_cases c item items) [
@@ -87,7 +59,7 @@ due_rejected v place c body items ok e =
     let u = untouched v c items ok e in
     let content : newly_emitted v c (Got place c body) items ≡ [] = no_span (emitted v c items) (emitted v c (Got place c body ∷ items)) (written c items) u.unwritten in
     let completion : completes v c (Got place c body) items ≡ false = and_left (completion_emitted v c (Got place c body ∷ items)) (not (completion_emitted v c items)) (uncompleted_emitted v c (Got place c body ∷ items) u.uncompleted) in
-    let termination : terminates v c (Got place c body) items ≡ false = nothing_ends (termination_emitted v c (Got place c body ∷ items)) (termination_emitted v c items) (rejected_sent v c items e) in
+    let termination : terminates v c (Got place c body) items ≡ false = nothing_ends (termination_emitted v c (Got place c body ∷ items)) (termination_emitted v c items) (rejected_terminated v c items e) in
     λ i. [] ++ content_frames c (content i) ++ (if completion i then frame_on c ContentWritingCompleted ∷ [] else []) ++ (if termination i then frame_on c ChannelTerminated ∷ [] else [])
 
 -- a kept channel, one that is gone, and one that is unknown
@@ -128,28 +100,28 @@ frame_found v place c body items ok offered plain = elim (cases_Bool (is_known c
 -- the frames of any item, by what an end keeps
 pub due_by_book : (v : Version) (item : Item) (items : List Item) → Allowed v (item ∷ items) → due v item items ≡ due_of_book item (book_of v items)
 due_by_book v (Hello party) items ok = refl
-due_by_book v (DidOffer key name size) items ok = channel_sends v key (DidOffer key name size) items (same_key_refl key) ok (unoffered_unrejected key items (fresh_did v key name size items ok).1)
+due_by_book v (DidOffer key name size) items ok = channel_sends v key (DidOffer key name size) items (same_key_refl key) ok (unoffered_unrejected key items (offered_first v key name size items ok).1)
 due_by_book v (DidAccept key size) items ok =
-    let kept = (accept_tells v key size items ok.0).1 in
+    let kept = (accept_permits v key size items ok.0).kept in
     due_kept v key (DidAccept key size) items ok.1 kept (channel_sends v key (DidAccept key size) items (same_key_refl key) ok (known_unrejected v key items ok.1 (kept_known v key items kept)))
 due_by_book v (DidWrite key bytes) items ok =
-    let kept = (write_tells v key bytes items ok.0).1 in
+    let kept = (write_permits v key bytes items ok.0).call.kept in
     due_kept v key (DidWrite key bytes) items ok.1 kept (channel_sends v key (DidWrite key bytes) items (same_key_refl key) ok (known_unrejected v key items ok.1 (kept_known v key items kept)))
 due_by_book v (DidRead key max) items ok =
-    let kept = read_tells v key items ok.0 in
+    let kept = read_permits v key items ok.0 in
     due_kept v key (DidRead key max) items ok.1 kept (channel_sends v key (DidRead key max) items (same_key_refl key) ok (known_unrejected v key items ok.1 (kept_known v key items kept)))
 due_by_book v (DidComplete key) items ok =
-    let kept = (complete_tells v key items ok.0).1 in
+    let kept = (complete_permits v key items ok.0).call.kept in
     due_kept v key (DidComplete key) items ok.1 kept (channel_sends v key (DidComplete key) items (same_key_refl key) ok (known_unrejected v key items ok.1 (kept_known v key items kept)))
 due_by_book v (DidTerminate key) items ok =
-    let kept = (terminate_tells v key items ok.0).1 in
+    let kept = (terminate_permits v key items ok.0).kept in
     due_kept v key (DidTerminate key) items ok.1 kept (channel_sends v key (DidTerminate key) items (same_key_refl key) ok (known_unrejected v key items ok.1 (kept_known v key items kept)))
-due_by_book v (Got place key (Offer name size)) items ok = channel_sends v key (Got place key (Offer name size)) items (same_key_refl key) ok (unoffered_unrejected key items (fresh_offer v key name size items ok.0.unrefused).1)
-due_by_book v (Got place key (OfferAccepted size)) items ok = frame_found v place key (OfferAccepted size) items ok (later_tells v key (OfferAccepted size) items ok.0.unrefused) refl
-due_by_book v (Got place key (Content bytes)) items ok = frame_found v place key (Content bytes) items ok (later_tells v key (Content bytes) items ok.0.unrefused) refl
-due_by_book v (Got place key ContentWritingCompleted) items ok = frame_found v place key ContentWritingCompleted items ok (later_tells v key ContentWritingCompleted items ok.0.unrefused) refl
-due_by_book v (Got place key ChannelTerminated) items ok = frame_found v place key ChannelTerminated items ok (later_tells v key ChannelTerminated items ok.0.unrefused) refl
-due_by_book v (Got place key (ContentProcessed count)) items ok = frame_found v place key (ContentProcessed count) items ok (later_tells v key (ContentProcessed count) items ok.0.unrefused) refl
+due_by_book v (Got place key (Offer name size)) items ok = channel_sends v key (Got place key (Offer name size)) items (same_key_refl key) ok (unoffered_unrejected key items (heard_first v key name size items ok.0.unrefused).1)
+due_by_book v (Got place key (OfferAccepted size)) items ok = frame_found v place key (OfferAccepted size) items ok (later_permits v key (OfferAccepted size) items ok.0.unrefused).0 refl
+due_by_book v (Got place key (Content bytes)) items ok = frame_found v place key (Content bytes) items ok (later_permits v key (Content bytes) items ok.0.unrefused).0 refl
+due_by_book v (Got place key ContentWritingCompleted) items ok = frame_found v place key ContentWritingCompleted items ok (later_permits v key ContentWritingCompleted items ok.0.unrefused).0 refl
+due_by_book v (Got place key ChannelTerminated) items ok = frame_found v place key ChannelTerminated items ok (later_permits v key ChannelTerminated items ok.0.unrefused).0 refl
+due_by_book v (Got place key (ContentProcessed count)) items ok = frame_found v place key (ContentProcessed count) items ok (later_permits v key (ContentProcessed count) items ok.0.unrefused).0 refl
 due_by_book v (Rejected place key body) items ok = refl
 due_by_book v (End cause) items ok = refl
 
@@ -163,14 +135,14 @@ event_kept v c body items ok offered ignored = elim (cases_Bool (is_known c item
   ]
   | inr unknown ↦
       let rejected = or_last (is_known c items) (is_rejected c items) unknown (offered_is c items ∙ offered) in
-      ignored (rejected_sent v c items rejected) (or_left (is_rejected c items) (is_terminated_by_peer c items) rejected) ∙ sym (ap (event_found c body) (found_none v c items unknown))
+      ignored (rejected_terminated v c items rejected) (or_left (is_rejected c items) (is_terminated_by_peer c items) rejected) ∙ sym (ap (event_found c body) (found_none v c items unknown))
 ]
 
 -- the event of a frame that no rule refuses
 pub event_by_book : (v : Version) (place : ℕ) (c : ChannelKey) (body : FrameBody) (items : List Item) → Allowed v (Got place c body ∷ items) → frame_event v c body items ≡ event_in c body (book_of v items)
 event_by_book v place c (Offer name size) items ok = refl
-event_by_book v place c (OfferAccepted size) items ok = event_kept v c (OfferAccepted size) items ok.2 (later_tells v c (OfferAccepted size) items ok.0.unrefused) (λ e f. rw e refl)
-event_by_book v place c (Content bytes) items ok = event_kept v c (Content bytes) items ok.2 (later_tells v c (Content bytes) items ok.0.unrefused) (λ e f. rw e refl)
-event_by_book v place c ContentWritingCompleted items ok = event_kept v c ContentWritingCompleted items ok.2 (later_tells v c ContentWritingCompleted items ok.0.unrefused) (λ e f. rw e refl)
-event_by_book v place c ChannelTerminated items ok = event_kept v c ChannelTerminated items ok.2 (later_tells v c ChannelTerminated items ok.0.unrefused) (λ e f. ap (λ b. if b then event.Ignored c else event.Closed c) f)
-event_by_book v place c (ContentProcessed count) items ok = event_kept v c (ContentProcessed count) items ok.2 (later_tells v c (ContentProcessed count) items ok.0.unrefused) (λ e f. rw e refl)
+event_by_book v place c (OfferAccepted size) items ok = event_kept v c (OfferAccepted size) items ok.2 (later_permits v c (OfferAccepted size) items ok.0.unrefused).0 (λ e f. rw e refl)
+event_by_book v place c (Content bytes) items ok = event_kept v c (Content bytes) items ok.2 (later_permits v c (Content bytes) items ok.0.unrefused).0 (λ e f. rw e refl)
+event_by_book v place c ContentWritingCompleted items ok = event_kept v c ContentWritingCompleted items ok.2 (later_permits v c ContentWritingCompleted items ok.0.unrefused).0 (λ e f. rw e refl)
+event_by_book v place c ChannelTerminated items ok = event_kept v c ChannelTerminated items ok.2 (later_permits v c ChannelTerminated items ok.0.unrefused).0 (λ e f. ap (λ b. if b then event.Ignored c else event.Closed c) f)
+event_by_book v place c (ContentProcessed count) items ok = event_kept v c (ContentProcessed count) items ok.2 (later_permits v c (ContentProcessed count) items ok.0.unrefused).0 (λ e f. rw e refl)

@@ -1,6 +1,6 @@
 -- A channel's state by its parts, and items that change none or few of them.
 use Rattle.std.specs.Prelude.{ℕ, ◌+◌, min, List, [], ◌∷◌, length, drop, Bool, true, false, not, ◌&&◌, ◌||◌, if◌then◌else◌}
-use Rattle.std.proofs.Common.{◌≡◌, inl, inr, refl, sym, ◌∙◌, ap, arith}
+use Rattle.std.proofs.Common.{◌≡◌, refl, sym, ◌∙◌, ap, arith}
 use Rattle.std.proofs.lemmas.List.{drop-drop, drop_all}
 use Rattle.wire_base.specs.declared.frame.Version.{Version}
 use Rattle.wire_base.specs.declared.state.Cause.{Cause}
@@ -8,9 +8,9 @@ use Rattle.mux_items.specs.declared.channel.ChannelKey.{ChannelKey}
 use Rattle.mux_items.specs.declared.party.Party.{Party}
 use Rattle.mux_items.specs.Bodies.{Offer, OfferAccepted, ContentWritingCompleted, ContentProcessed, same_key, window_of}
 use Rattle.mux_items.specs.Items.{Item, Hello, DidRead, DidTerminate, Got, End, names}
-use Rattle.mux_items.specs.Lists.{written, is_cut, before_cut, emitted_in, emitted, has_completed, has_terminated, is_terminated_by_peer, is_rejected, completion_in, completion_emitted, termination_emitted, taken, is_completed, acknowledged, granted, is_dropped, unread_count, handed, unread}
+use Rattle.mux_items.specs.Lists.{written, is_cut, emitted_in, emitted, has_completed, has_terminated, is_terminated_by_peer, is_rejected, completion_in, completion_emitted, termination_emitted, taken, is_completed, acknowledged, granted, is_dropped, unread_count, handed, unread}
 use Rattle.mux_items.proofs.Keys.{same_key_refl}
-use Rattle.mux_items.proofs.Emission.{written_unnamed, cut_unnamed, emitted_unnamed, before_cut_cases}
+use Rattle.mux_items.proofs.Emission.{written_unnamed, cut_unnamed, emitted_unnamed, before_same}
 use Rattle.mux_items.proofs.Apart.{unheeded, skipped, window_unnamed, has_completed-restricted, is_terminated_by_peer-restricted, completion_emitted-restricted, termination_unnamed, taken_unnamed, accepted_unnamed, handed_unnamed, unread_unnamed}
 use Rattle.mux_items.proofs.Taking.{finished_in}
 use Rattle.mux_items.proofs.Window.{length-unread}
@@ -67,18 +67,12 @@ channel_unnamed v c item items e =
     (completed_unnamed v c item items e) (termination_unnamed v c item items e) (skipped c (is_terminated_by_peer c) (is_terminated_by_peer-restricted c) item items e)
 
 -- what an item leaves unchanged it leaves unchanged before the cut
-pub before_same : {A : Type 0} (f : List Item → A) (c : ChannelKey) (item : Item) (items : List Item) → f (item ∷ items) ≡ f items → f (before_cut c (item ∷ items)) ≡ f (before_cut c items)
-before_same f c item items same = elim (before_cut_cases c item items) [
-  | inl e ↦ ap f e
-  | inr e ↦ ap f e.0 ∙ (same ∙ sym (ap f e.1))
-]
-
 pub channel_hello : (v : Version) (c : ChannelKey) (party : Party) (items : List Item) → channel_at v c (Hello party ∷ items) ≡ channel_at v c items
 channel_hello v c party items =
-    let sent : emitted v c (Hello party ∷ items) ≡ emitted v c items = before_same (emitted_in v c) c (Hello party) items refl in
+    let sent : emitted v c (Hello party ∷ items) ≡ emitted v c items = before_same c (emitted_in v c) (Hello party) items refl in
     same_state (channel_at v c (Hello party ∷ items)) (channel_at v c items) refl refl refl refl refl
-    (ap (λ n. pending_bytes (is_cut c items) n (written c items)) sent) sent refl (before_same (completion_in v c) c (Hello party) items refl) refl refl refl refl refl refl
-    (ap (λ b. has_terminated c items || is_terminated_by_peer c items || is_rejected c items || b) (before_same (finished_in v c) c (Hello party) items refl)) refl
+    (ap (λ n. pending_bytes (is_cut c items) n (written c items)) sent) sent refl (before_same c (completion_in v c) (Hello party) items refl) refl refl refl refl refl refl
+    (ap (λ b. has_terminated c items || is_terminated_by_peer c items || is_rejected c items || b) (before_same c (finished_in v c) (Hello party) items refl)) refl
 
 -- the end drops what is pending
 pub channel_end : (v : Version) (c : ChannelKey) (cause : Cause) (items : List Item) → channel_at v c (End cause ∷ items) ≡ ended_state (channel_at v c items)
@@ -92,16 +86,16 @@ read_drop false max moved bytes = sym (drop-drop (min max (unread_count false (l
 pub channel_read : (v : Version) (c : ChannelKey) (max : ℕ) (items : List Item) → channel_at v c (DidRead c max ∷ items) ≡ read_state max (channel_at v c items)
 channel_read v c max items =
     let item = DidRead c max in
-    let sent : emitted v c (item ∷ items) ≡ emitted v c items = before_same (emitted_in v c) c item items refl in
+    let sent : emitted v c (item ∷ items) ≡ emitted v c items = before_same c (emitted_in v c) item items refl in
     let moved : handed v c (item ∷ items) ≡ handed v c items + min max (unread_count (is_dropped v c items) (length (taken v c items)) (handed v c items)) = rw (same_key_refl c) refl in
     same_state (channel_at v c (item ∷ items)) (read_state max (channel_at v c items)) refl refl refl refl refl
-    (ap (λ n. pending_bytes (is_cut c items) n (written c items)) sent) sent refl (before_same (completion_in v c) c item items refl) refl refl refl
+    (ap (λ n. pending_bytes (is_cut c items) n (written c items)) sent) sent refl (before_same c (completion_in v c) item items refl) refl refl refl
     (ap (λ n. if is_dropped v c items then [] else drop n (taken v c items)) moved
     ∙ (read_drop (is_dropped v c items) max (handed v c items) (taken v c items)
     ∙ ap (λ n. drop (min max n) (unread v c items)) (sym (length-unread v c items))))
     (moved ∙ ap (λ n. handed v c items + min max n) (sym (length-unread v c items)))
     refl
-    (ap (λ b. has_terminated c items || is_terminated_by_peer c items || is_rejected c items || b) (before_same (finished_in v c) c item items refl)) refl
+    (ap (λ b. has_terminated c items || is_terminated_by_peer c items || is_rejected c items || b) (before_same c (finished_in v c) item items refl)) refl
 
 -- a termination here
 pub channel_terminated : (v : Version) (c : ChannelKey) (items : List Item) → channel_at v c (DidTerminate c ∷ items) ≡ terminated_state (channel_at v c items)

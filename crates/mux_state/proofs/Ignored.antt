@@ -10,19 +10,17 @@ use Rattle.mux_items.specs.Lists.{written, is_cut, before_cut, is_accepted_in, e
 use Rattle.mux_items.specs.Applying.{Allowed}
 use Rattle.mux_items.proofs.Emission.{no_cut, emitted_in_more, emitted_in_bound}
 use Rattle.mux_items.proofs.Taking.{finished_in, termination_more, finished_more}
+use Rattle.mux_items.proofs.Emits.{cut_there}
+use Rattle.mux_items.proofs.Open.{uncut_both}
 use Rattle.mux_state.specs.State.{ChannelState, pending_bytes, channel_at}
 use Rattle.mux_state.specs.Next.{framed_state, settled}
 use Rattle.mux_state.proofs.Fields.{same_state}
-use Rattle.mux_state.proofs.Open.{uncut_here, uncut_peer}
 
 finished_uncut : (v : Version) (c : ChannelKey) (items : List Item) → termination_emitted v c items ≡ true → is_cut c items ≡ false → is_rejected c items ≡ false → is_finished v c items ≡ true
-finished_uncut v c items sent uncut unrejected = last_of (has_terminated c items) (is_terminated_by_peer c items) (is_rejected c items) (is_finished v c items) sent (uncut_here c items uncut) (uncut_peer c items uncut) unrejected
+finished_uncut v c items sent uncut unrejected = last_of (has_terminated c items) (is_terminated_by_peer c items) (is_rejected c items) (is_finished v c items) sent (uncut_both c items uncut).0 (uncut_both c items uncut).1 unrejected
   where
     last_of : (a b r d : Bool) → (a || b || r || d) ≡ true → a ≡ false → b ≡ false → r ≡ false → d ≡ true
     last_of a b r d e f g h = cc
-
-cut_before : (c : ChannelKey) (item : Item) (items : List Item) → is_cut c (item ∷ items) ≡ true → before_cut c (item ∷ items) ≡ before_cut c items
-cut_before c item items e = rw e refl
 
 all_emitted : (v : Version) (c : ChannelKey) (items : List Item) → is_finished v c items ≡ true → is_cut c items ≡ false → emitted_in v c items ≡ length (written c items)
 all_emitted v c items done uncut =
@@ -50,7 +48,7 @@ stays_uncut v c item items ok done uncut still same =
 pub stays_sent : (v : Version) (c : ChannelKey) (item : Item) (items : List Item) → Allowed v (item ∷ items) → termination_emitted v c items ≡ true → is_rejected c items ≡ false → is_cut c (item ∷ items) ≡ is_cut c items → written c (item ∷ items) ≡ written c items
     → StaysSent v c item items
 stays_sent v c item items ok sent unrejected cut same = elim (cases_Bool (is_cut c items)) [
-  | inl e ↦ record { emitted = ap (emitted_in v c) (cut_before c item items (cut ∙ e)); completion = ap (completion_in v c) (cut_before c item items (cut ∙ e)) }
+  | inl e ↦ record { emitted = ap (emitted_in v c) (cut_there c item items (cut ∙ e)); completion = ap (completion_in v c) (cut_there c item items (cut ∙ e)) }
   | inr e ↦ stays_uncut v c item items ok (finished_uncut v c items sent e unrejected) e (cut ∙ e) same
 ]
 

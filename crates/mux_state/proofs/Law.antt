@@ -1,83 +1,23 @@
 -- One more item makes of a channel what it makes of its state.
-use Rattle.std.specs.Prelude.{ℕ, ◌+◌, ◌≤◌, List, [], ◌∷◌, length, drop, Bool, true, false, nat_le, if◌then◌else◌, Option, None}
+use Rattle.std.specs.Prelude.{ℕ, List, [], ◌∷◌, drop, Bool, true, false, if◌then◌else◌, Option}
 use Rattle.std.proofs.Common.{◌≡◌, inl, inr, refl, sym, ◌∙◌, ap, subst, arith}
-use Rattle.std.proofs.lemmas.Bool.{cases_Bool, true≢false, false≢true, and_parts, false_from_ne_true}
+use Rattle.std.proofs.lemmas.Bool.{cases_Bool, true≢false}
 use Rattle.wire_base.specs.declared.frame.Version.{Version}
 use Rattle.mux_items.specs.declared.channel.ChannelKey.{ChannelKey}
-use Rattle.mux_items.specs.declared.party.Party.{Party}
-use Rattle.mux_items.specs.declared.party.Party.TheVariants.{Odd, Even, Neither}
-use Rattle.mux_items.specs.Bodies.{FrameBody, Offer, OfferAccepted, Content, ContentWritingCompleted, ChannelTerminated, ContentProcessed, same_key, window_of}
-use Rattle.mux_items.specs.Items.{Item, Hello, DidOffer, DidAccept, DidWrite, DidRead, DidComplete, DidTerminate, Got, Rejected, End, names, ended, is_running, party_or_neither, party_of}
+use Rattle.mux_items.specs.Bodies.{FrameBody, Offer, OfferAccepted, Content, ContentWritingCompleted, ChannelTerminated, ContentProcessed, window_of}
+use Rattle.mux_items.specs.Items.{Item, Hello, DidOffer, DidAccept, DidWrite, DidRead, DidComplete, DidTerminate, Got, Rejected, End, names, ended, is_running}
 use Rattle.mux_items.specs.Lists.{written, is_offered, is_rejected, is_cut, emitted, termination_emitted}
-use Rattle.mux_items.specs.Limits.{most_channels}
-use Rattle.mux_items.specs.Kept.{kept_keys, own_offers, own_id, next_key}
-use Rattle.mux_items.specs.Refusals.{frame_refusal}
-use Rattle.mux_items.specs.Applying.{Allowed, is_offer}
-use Rattle.mux_items.proofs.Applied.{allowed_tail}
+use Rattle.mux_items.specs.Applying.{Allowed}
 use Rattle.mux_items.proofs.Keys.{same_key_refl, same_key_true}
+use Rattle.mux_items.proofs.Offered.{heard_first, offered_first}
+use Rattle.mux_items.proofs.Permits.{accept_permits, complete_permits, unless_none, write_permits}
 use Rattle.mux_state.specs.State.{ChannelState, pending_bytes, channel_at, blank}
 use Rattle.mux_state.specs.Next.{offered_state, heard_state, settled, next_state, next_on}
 use Rattle.mux_state.proofs.Fields.{same_state, channel_unnamed, channel_hello, channel_end, channel_read, channel_terminated}
 use Rattle.mux_state.proofs.Open.{unsent, channel_open}
-use Rattle.mux_state.proofs.Step.{unless_none, accept_tells, write_tells, complete_tells, IsOpen, is_open, channel_accept, channel_write, channel_complete, heard_answer, heard_content, heard_completion, heard_credit, channel_closed}
-use Rattle.mux_state.proofs.Known.{fresh_offer, blank_before}
+use Rattle.mux_state.proofs.Step.{IsOpen, is_open, channel_accept, channel_write, channel_complete, heard_answer, heard_content, heard_completion, heard_credit, channel_closed}
+use Rattle.mux_state.proofs.Known.{blank_before}
 use Rattle.mux_state.proofs.Ignored.{ignored_answer, ignored_content, ignored_completion, ignored_credit}
-
-id_grows : (party : Party) (n : ℕ) → own_id party n + 1 ≤ own_id party (n + 1)
-id_grows Odd n = omega arith
-id_grows Even n = omega arith
-id_grows Neither n = omega arith
-
-neither_least : (party : Party) (n : ℕ) → own_id Neither n ≤ own_id party n
-neither_least Odd n = omega arith
-neither_least Even n = omega arith
-neither_least Neither n = omega arith
-
-offer_of : (body : FrameBody) → is_offer body ≡ true → (name : List ℕ) × (size : Option ℕ) × (body ≡ Offer name size)
-offer_of (Offer name size) e = (name, size, refl)
-offer_of (OfferAccepted size) e = absurd (false≢true e)
-offer_of (Content bytes) e = absurd (false≢true e)
-offer_of ContentWritingCompleted e = absurd (false≢true e)
-offer_of ChannelTerminated e = absurd (false≢true e)
-offer_of (ContentProcessed count) e = absurd (false≢true e)
-
--- a rejected offer is an offer, and its channel's first
-pub fresh_rejection : (v : Version) (place : ℕ) (c : ChannelKey) (body : FrameBody) (items : List Item) → Allowed v (Rejected place c body ∷ items) → (c.own ≡ false) × (is_offered c items ≡ false)
-fresh_rejection v place c body items ok =
-    let o = offer_of body (and_parts (is_offer body) (nat_le most_channels (length (kept_keys v items))) ok.1).0 in
-    fresh_offer v c o.0 o.1 items (subst (λ b. frame_refusal v c b items ≡ None) o.2 ok.0.unrefused)
-
-by_peer_key : {A : Type 0} (c key : ChannelKey) → same_key key c ≡ true → key.own ≡ false → c.own ≡ true → A
-by_peer_key c key same theirs own = absurd (true≢false (sym own ∙ (sym (ap (λ k. k.own) (same_key_true key c same)) ∙ theirs)))
-
-else_of : (b x : Bool) → b ≡ false → (if b then true else x) ≡ true → x ≡ true
-else_of true x e f = absurd (true≢false e)
-else_of false x e f = f
-
--- the ids of own offers are at most the last that was drawn
-pub own_bound : (v : Version) (c : ChannelKey) (items : List Item) → Allowed v items → is_offered c items ≡ true → c.own ≡ true → c.id ≤ own_id (party_of items) (own_offers items)
-own_bound v c [] ok e own = absurd (false≢true e)
-own_bound v c (Hello party ∷ items) ok e own = omega (arith, own_bound v c items ok.1 e own, ap (λ g. own_id (party_or_neither g) (own_offers items)) ok.0.once, neither_least party (own_offers items))
-own_bound v c (DidOffer key name size ∷ items) ok e own = elim (cases_Bool (same_key key c)) [
-  | inl same ↦ omega (arith, ap (λ k. k.id) (sym (same_key_true key c same) ∙ ok.1))
-  | inr differ ↦ omega (arith, own_bound v c items ok.2 (else_of (same_key key c) (is_offered c items) differ e) own, id_grows (party_of items) (own_offers items))
-]
-own_bound v c (Got place key (Offer name size) ∷ items) ok e own = elim (cases_Bool (same_key key c)) [
-  | inl same ↦ by_peer_key c key same (fresh_offer v key name size items ok.0.unrefused).0 own
-  | inr differ ↦ own_bound v c items ok.2 (else_of (same_key key c) (is_offered c items) differ e) own
-]
-own_bound v c (Rejected place key body ∷ items) ok e own = elim (cases_Bool (same_key key c)) [
-  | inl same ↦ by_peer_key c key same (fresh_rejection v place key body items ok).0 own
-  | inr differ ↦ own_bound v c items ok.2 (else_of (same_key key c) (is_offered c items) differ e) own
-]
-own_bound v c (item ∷ items) ok e own = own_bound v c items (allowed_tail v item items ok) e own
-
--- an own offer draws a channel that wasn't offered
-pub fresh_key : (v : Version) (items : List Item) → Allowed v items → is_offered (next_key items) items ≡ false
-fresh_key v items ok = false_from_ne_true (is_offered (next_key items) items) (λ e. omega (arith, own_bound v (next_key items) items ok e refl, id_grows (party_of items) (own_offers items)))
-
-pub fresh_did : (v : Version) (c : ChannelKey) (name : List ℕ) (size : ℕ) (items : List Item) → Allowed v (DidOffer c name size ∷ items) → (c.own ≡ true) × (is_offered c items ≡ false)
-fresh_did v c name size items ok = (ap (λ k. k.own) ok.1, subst (λ k. is_offered k items ≡ false) (sym ok.1) (fresh_key v items ok.2))
 
 -- a first offer, by what is said of the channel before it
 offered_open : (v : Version) (c : ChannelKey) (items : List Item) → Allowed v items → is_running items ≡ true → is_offered c items ≡ false → (channel_at v c items ≡ blank v c.own) × IsOpen v c items
@@ -90,12 +30,12 @@ pending_open true sent bytes uncut e = absurd (true≢false uncut)
 pending_open false sent bytes uncut e = e
 
 pub open_offered : (v : Version) (c : ChannelKey) (name : List ℕ) (size : ℕ) (items : List Item) → Allowed v (DidOffer c name size ∷ items) → IsOpen v c items
-open_offered v c name size items ok = (offered_open v c items ok.2 (unless_none (ended items) _ ok.0).0 (fresh_did v c name size items ok).1).1
+open_offered v c name size items ok = (offered_open v c items ok.2 (unless_none (ended items) _ ok.0).0 (offered_first v c name size items ok).1).1
 
 pub absorbed_offered : (v : Version) (c : ChannelKey) (name : List ℕ) (size : ℕ) (items : List Item) → Allowed v (DidOffer c name size ∷ items) → unsent v c (DidOffer c name size) items ≡ offered_state v size
 absorbed_offered v c name size items ok =
     let item = DidOffer c name size in
-    let fresh = fresh_did v c name size items ok in
+    let fresh = offered_first v c name size items ok in
     let o = offered_open v c items ok.2 (unless_none (ended items) _ ok.0).0 fresh.1 in
     same_state (unsent v c item items) (offered_state v size) refl fresh.0 (rw (same_key_refl c) (omega (arith, ap (λ s. s.window) o.0))) (ap (λ s. s.accepted) o.0) (ap (λ s. s.written) o.0)
     (pending_open (is_cut c items) (emitted v c items) (written c items) o.1.uncut (ap (λ s. s.pending) o.0)) (ap (λ s. s.emitted) o.0) (ap (λ s. s.completing) o.0) (ap (λ s. s.completion_sent) o.0) (ap (λ s. s.granted) o.0) (ap (λ s. s.acknowledged) o.0)
@@ -107,12 +47,12 @@ channel_offered v c name size items ok =
     channel_open v c (DidOffer c name size) items ok o.heard o.uncut o.unrejected ∙ ap settled (absorbed_offered v c name size items ok)
 
 pub open_heard : (v : Version) (place : ℕ) (c : ChannelKey) (name : List ℕ) (size : Option ℕ) (items : List Item) → Allowed v (Got place c (Offer name size) ∷ items) → IsOpen v c items
-open_heard v place c name size items ok = (offered_open v c items ok.2 ok.0.running (fresh_offer v c name size items ok.0.unrefused).1).1
+open_heard v place c name size items ok = (offered_open v c items ok.2 ok.0.running (heard_first v c name size items ok.0.unrefused).1).1
 
 pub absorbed_heard : (v : Version) (place : ℕ) (c : ChannelKey) (name : List ℕ) (size : Option ℕ) (items : List Item) → Allowed v (Got place c (Offer name size) ∷ items) → unsent v c (Got place c (Offer name size)) items ≡ heard_state v (window_of size)
 absorbed_heard v place c name size items ok =
     let item = Got place c (Offer name size) in
-    let fresh = fresh_offer v c name size items ok.0.unrefused in
+    let fresh = heard_first v c name size items ok.0.unrefused in
     let o = offered_open v c items ok.2 ok.0.running fresh.1 in
     same_state (unsent v c item items) (heard_state v (window_of size)) refl fresh.0 (ap (λ s. s.window) o.0) (ap (λ s. s.accepted) o.0) (ap (λ s. s.written) o.0)
     (pending_open (is_cut c items) (emitted v c items) (written c items) o.1.uncut (ap (λ s. s.pending) o.0)) (ap (λ s. s.emitted) o.0) (ap (λ s. s.completing) o.0) (ap (λ s. s.completion_sent) o.0)
@@ -145,12 +85,12 @@ named_step : (v : Version) (c : ChannelKey) (item : Item) (items : List Item) �
 named_step v c (Hello party) items named ok unrejected = channel_hello v c party items
 named_step v c (DidOffer key name size) items named ok unrejected = subst (λ k. Allowed v (DidOffer k name size ∷ items) → channel_at v c (DidOffer k name size ∷ items) ≡ settled (offered_state v size)) (sym (same_key_true key c named)) (channel_offered v c name size items) ok
 named_step v c (DidAccept key size) items named ok unrejected = subst (λ k. Allowed v (DidAccept k size ∷ items) → channel_at v c (DidAccept k size ∷ items) ≡ next_state (DidAccept k size) (channel_at v c items)) (sym (same_key_true key c named))
-    (λ now. let told = accept_tells v c size items now.0 in channel_accept v c size items now (is_open v c items told.0 told.2)) ok
+    (λ now. let told = accept_permits v c size items now.0 in channel_accept v c size items now (is_open v c items told.running told.heard)) ok
 named_step v c (DidWrite key bytes) items named ok unrejected = subst (λ k. Allowed v (DidWrite k bytes ∷ items) → channel_at v c (DidWrite k bytes ∷ items) ≡ next_state (DidWrite k bytes) (channel_at v c items)) (sym (same_key_true key c named))
-    (λ now. let told = write_tells v c bytes items now.0 in channel_write v c bytes items now (is_open v c items told.0 told.2)) ok
+    (λ now. let told = (write_permits v c bytes items now.0).call in channel_write v c bytes items now (is_open v c items told.running told.heard)) ok
 named_step v c (DidRead key max) items named ok unrejected = subst (λ k. channel_at v c (DidRead k max ∷ items) ≡ next_state (DidRead k max) (channel_at v c items)) (sym (same_key_true key c named)) (channel_read v c max items)
 named_step v c (DidComplete key) items named ok unrejected = subst (λ k. Allowed v (DidComplete k ∷ items) → channel_at v c (DidComplete k ∷ items) ≡ next_state (DidComplete k) (channel_at v c items)) (sym (same_key_true key c named))
-    (λ now. let told = complete_tells v c items now.0 in channel_complete v c items now (is_open v c items told.0 told.2)) ok
+    (λ now. let told = (complete_permits v c items now.0).call in channel_complete v c items now (is_open v c items told.running told.heard)) ok
 named_step v c (DidTerminate key) items named ok unrejected = subst (λ k. channel_at v c (DidTerminate k ∷ items) ≡ next_state (DidTerminate k) (channel_at v c items)) (sym (same_key_true key c named)) (terminated_settled v c items)
 named_step v c (Got place key body) items named ok unrejected = subst (λ k. Allowed v (Got place k body ∷ items) → channel_at v c (Got place k body ∷ items) ≡ next_state (Got place c body) (channel_at v c items)) (sym (same_key_true key c named))
     (λ now. frame_step v place c body items now unrejected) ok ∙ got_key place c key body (channel_at v c items)

@@ -1,57 +1,21 @@
 -- Items on a channel whose own termination isn't sent: what becomes emitted, by the state.
-use Rattle.std.specs.Prelude.{ℕ, ◌+◌, ◌-◌, min, ◌≤◌, List, [], ◌∷◌, length, drop, Bool, true, false, not, ◌&&◌, ◌||◌, ◌==◌, if◌then◌else◌}
-use Rattle.std.proofs.Common.{◌≡◌, inl, inr, refl, sym, ◌∙◌, ap, arith, length-drop}
-use Rattle.std.proofs.lemmas.Bool.{cases_Bool, true≢false, false≢true, false_from_ne_true}
+use Rattle.std.specs.Prelude.{ℕ, ◌+◌, ◌-◌, min, ◌≤◌, List, ◌∷◌, length, drop, Bool, true, false, ◌&&◌, ◌||◌, ◌==◌, if◌then◌else◌}
+use Rattle.std.proofs.Common.{◌≡◌, refl, sym, ◌∙◌, ap, arith, length-drop}
 use Rattle.std.proofs.lemmas.Bool.Decides.{nat_tests}
 use Rattle.std.proofs.lemmas.List.{drop-drop}
 use Rattle.wire_base.specs.declared.frame.Version.{Version}
 use Rattle.mux_items.specs.declared.channel.ChannelKey.{ChannelKey}
-use Rattle.mux_items.specs.Bodies.{Offer, OfferAccepted, ContentWritingCompleted, ChannelTerminated, ContentProcessed, same_key, is_one, window_of}
-use Rattle.mux_items.specs.Items.{Item, DidAccept, DidTerminate, Got}
+use Rattle.mux_items.specs.Bodies.{is_one}
+use Rattle.mux_items.specs.Items.{Item}
 use Rattle.mux_items.specs.Lists.{written, window, is_cut, before_cut, is_accepted_in, granted_in, is_completed_in, within_grant, emitted_in, emitted, has_completed, has_terminated, is_terminated_by_peer, is_rejected, completion_in, completion_emitted, termination_emitted, taken, is_accepted, is_completed, acknowledged, granted, unread, handed}
 use Rattle.mux_items.specs.Applying.{Allowed}
 use Rattle.mux_items.proofs.Applied.{allowed_tail}
 use Rattle.mux_items.proofs.Emission.{no_cut, no_cut_before, emitted_in_more, emitted_in_bound}
-use Rattle.mux_items.proofs.Taking.{completion_in_more, termination_more}
+use Rattle.mux_items.proofs.Taking.{completion_in_more}
+use Rattle.mux_items.proofs.Open.{accepted_heard, accepted_step, completed_heard, completed_step, granted_heard, granted_step, uncut_both}
 use Rattle.mux_state.specs.State.{ChannelState, pending_bytes, channel_at}
 use Rattle.mux_state.specs.Next.{sendable, goes_whole, is_done, settled}
 use Rattle.mux_state.proofs.Fields.{same_state}
-
-heard_before : (v : Version) (c : ChannelKey) (item : Item) (items : List Item) → termination_emitted v c (item ∷ items) ≡ false → Allowed v (item ∷ items) → termination_emitted v c items ≡ false
-heard_before v c item items e ok = false_from_ne_true (termination_emitted v c items) (λ sent. false≢true (sym e ∙ termination_more v c item items sent ok))
-
-heard_if : {A : Type 0} (same terminated : Bool) (x y : A) → terminated ≡ false → (if same && not terminated then x else y) ≡ (if same then x else y)
-heard_if same true x y e = absurd (true≢false e)
-heard_if true false x y e = refl
-heard_if false false x y e = refl
-
--- until the own termination is sent every frame is heeded
-pub accepted_step : (v : Version) (c : ChannelKey) (item : Item) (items : List Item) → termination_emitted v c items ≡ false → is_accepted_in c items ≡ is_accepted v c items → is_accepted_in c (item ∷ items) ≡ is_accepted v c (item ∷ items)
-accepted_step v c (DidAccept key size) items e same = ap (λ b. if same_key key c then true else b) same
-accepted_step v c (Got place key (OfferAccepted size)) items e same = ap (λ b. if same_key key c then true else b) same ∙ sym (heard_if (same_key key c) (termination_emitted v c items) true (is_accepted v c items) e)
-accepted_step v c item items e same = same
-
-pub granted_step : (v : Version) (c : ChannelKey) (item : Item) (items : List Item) → termination_emitted v c items ≡ false → granted_in c items ≡ granted v c items → granted_in c (item ∷ items) ≡ granted v c (item ∷ items)
-granted_step v c (Got place key (Offer name size)) items e same = ap (λ n. if same_key key c then n + window_of size else n) same ∙ sym (heard_if (same_key key c) (termination_emitted v c items) (granted v c items + window_of size) (granted v c items) e)
-granted_step v c (Got place key (OfferAccepted size)) items e same = ap (λ n. if same_key key c then n + window_of size else n) same ∙ sym (heard_if (same_key key c) (termination_emitted v c items) (granted v c items + window_of size) (granted v c items) e)
-granted_step v c (Got place key (ContentProcessed count)) items e same = ap (λ n. if same_key key c then n + count else n) same ∙ sym (heard_if (same_key key c) (termination_emitted v c items) (granted v c items + count) (granted v c items) e)
-granted_step v c item items e same = same
-
-pub completed_step : (v : Version) (c : ChannelKey) (item : Item) (items : List Item) → termination_emitted v c items ≡ false → is_completed_in c items ≡ is_completed v c items → is_completed_in c (item ∷ items) ≡ is_completed v c (item ∷ items)
-completed_step v c (Got place key ContentWritingCompleted) items e same = ap (λ b. if same_key key c then true else b) same ∙ sym (heard_if (same_key key c) (termination_emitted v c items) true (is_completed v c items) e)
-completed_step v c item items e same = same
-
-pub accepted_heard : (v : Version) (c : ChannelKey) (items : List Item) → termination_emitted v c items ≡ false → Allowed v items → is_accepted_in c items ≡ is_accepted v c items
-accepted_heard v c [] e ok = refl
-accepted_heard v c (item ∷ items) e ok = let heard = heard_before v c item items e ok in accepted_step v c item items heard (accepted_heard v c items heard (allowed_tail v item items ok))
-
-pub granted_heard : (v : Version) (c : ChannelKey) (items : List Item) → termination_emitted v c items ≡ false → Allowed v items → granted_in c items ≡ granted v c items
-granted_heard v c [] e ok = refl
-granted_heard v c (item ∷ items) e ok = let heard = heard_before v c item items e ok in granted_step v c item items heard (granted_heard v c items heard (allowed_tail v item items ok))
-
-pub completed_heard : (v : Version) (c : ChannelKey) (items : List Item) → termination_emitted v c items ≡ false → Allowed v items → is_completed_in c items ≡ is_completed v c items
-completed_heard v c [] e ok = refl
-completed_heard v c (item ∷ items) e ok = let heard = heard_before v c item items e ok in completed_step v c item items heard (completed_heard v c items heard (allowed_tail v item items ok))
 
 -- so many of the bytes that are left may go
 abbrev pub spare : (one accepted : Bool) → (granted sent left : ℕ) → ℕ
@@ -71,23 +35,6 @@ all_sent sent more all le less = grind (arith, nat_tests)
 
 all_by : (accepted done : Bool) (left more sent all : ℕ) → (left == more) ≡ (sent == all) → (accepted && done && (left == more)) ≡ (accepted && done && (sent == all))
 all_by accepted done left more sent all e = ap (λ b. accepted && done && b) e
-
--- without a cut nothing was terminated
-pub uncut_here : (c : ChannelKey) (items : List Item) → is_cut c items ≡ false → has_terminated c items ≡ false
-uncut_here c [] e = refl
-uncut_here c (DidTerminate key ∷ items) e = elim (cases_Bool (same_key key c)) [
-  | inl same ↦ absurd (true≢false (sym (ap (λ b. if b then true else is_cut c items) same) ∙ e))
-  | inr differ ↦ ap (λ b. if b then true else has_terminated c items) differ ∙ uncut_here c items (no_cut_before c (DidTerminate key) items e)
-]
-uncut_here c (item ∷ items) e = uncut_here c items (no_cut_before c item items e)
-
-pub uncut_peer : (c : ChannelKey) (items : List Item) → is_cut c items ≡ false → is_terminated_by_peer c items ≡ false
-uncut_peer c [] e = refl
-uncut_peer c (Got place key ChannelTerminated ∷ items) e = elim (cases_Bool (same_key key c)) [
-  | inl same ↦ absurd (true≢false (sym (ap (λ b. if b then true else is_cut c items) same) ∙ e))
-  | inr differ ↦ ap (λ b. if b then true else is_terminated_by_peer c items) differ ∙ uncut_peer c items (no_cut_before c (Got place key ChannelTerminated) items e)
-]
-uncut_peer c (item ∷ items) e = uncut_peer c items (no_cut_before c item items e)
 
 -- the state with all that an item tells, before what is due is sent
 abbrev pub unsent : Version → ChannelKey → Item → List Item → ChannelState
@@ -127,7 +74,7 @@ emitted_open v c item items ok heard uncut =
     let ws = written c (item ∷ items) in
     let now : emitted v c (item ∷ items) ≡ (if a then within_grant v g (length ws) else 0) =
     emitted_uncut v c (item ∷ items) uncut
-    ∙ emitted_by v (is_accepted_in c (item ∷ items)) a (granted_in c (item ∷ items)) g (length ws) (accepted_step v c item items heard (accepted_heard v c items heard old)) (granted_step v c item items heard (granted_heard v c items heard old)) in
+    ∙ emitted_by v (is_accepted_in c (item ∷ items)) a (granted_in c (item ∷ items)) g (length ws) (accepted_step v c item items heard (accepted_heard v c items old heard)) (granted_step v c item items heard (granted_heard v c items old heard)) in
     let less : e ≤ (if a then within_grant v g (length ws) else 0) =
     omega (arith, emitted_uncut v c items (no_cut_before c item items uncut), emitted_in_more v c item items, emitted_uncut v c (item ∷ items) uncut, now) in
     now ∙ (sym (sent_more v a g e (length ws) less) ∙ ap (λ n. e + spare (is_one v) a g e n) (sym (length-drop e ws)))
@@ -145,7 +92,7 @@ done_whole v c item items ok heard uncut =
     let less : e ≤ length ws = omega (arith, emitted_uncut v c items (no_cut_before c item items uncut), emitted_in_more v c item items, emitted_in_bound v c (item ∷ items)) in
     let whole : e + more ≤ length ws = omega (arith, sent, emitted_uncut v c (item ∷ items) uncut, emitted_in_bound v c (item ∷ items)) in
     ap (completion_in v c) (no_cut c (item ∷ items) uncut)
-    ∙ (ap (λ b. b && h && (emitted_in v c (item ∷ items) == length ws)) (accepted_step v c item items heard (accepted_heard v c items heard old))
+    ∙ (ap (λ b. b && h && (emitted_in v c (item ∷ items) == length ws)) (accepted_step v c item items heard (accepted_heard v c items old heard))
     ∙ (ap (λ n. a && h && (n == length ws)) (sym (emitted_uncut v c (item ∷ items) uncut) ∙ sent)
     ∙ (ap (λ b. a && h && b) (sym (all_sent e more (length ws) less whole))
     ∙ ap (λ n. a && h && (n == more)) (sym (length-drop e ws)))))
@@ -169,8 +116,8 @@ pub terminated_open : (v : Version) (c : ChannelKey) (item : Item) (items : List
     → termination_emitted v c (item ∷ items) ≡ (is_done (unsent v c item items) && is_completed v c (item ∷ items))
 terminated_open v c item items ok heard uncut unrejected =
     four_from (has_terminated c (item ∷ items)) (is_terminated_by_peer c (item ∷ items)) (is_rejected c (item ∷ items)) (completion_emitted v c (item ∷ items)) (is_done (unsent v c item items)) (is_completed_in c (before_cut c (item ∷ items))) (is_completed v c (item ∷ items))
-    (uncut_here c (item ∷ items) uncut) (uncut_peer c (item ∷ items) uncut) unrejected (done_open v c item items ok heard uncut)
-    (ap (is_completed_in c) (no_cut c (item ∷ items) uncut) ∙ completed_step v c item items heard (completed_heard v c items heard (allowed_tail v item items ok)))
+    (uncut_both c (item ∷ items) uncut).0 (uncut_both c (item ∷ items) uncut).1 unrejected (done_open v c item items ok heard uncut)
+    (ap (is_completed_in c) (no_cut c (item ∷ items) uncut) ∙ completed_step v c item items heard (completed_heard v c items (allowed_tail v item items ok) heard))
 
 -- what is due is sent
 pub channel_open : (v : Version) (c : ChannelKey) (item : Item) (items : List Item) → Allowed v (item ∷ items) → termination_emitted v c items ≡ false → is_cut c (item ∷ items) ≡ false → is_rejected c (item ∷ items) ≡ false
@@ -181,4 +128,4 @@ channel_open v c item items ok heard uncut unrejected =
     (ap (λ b. pending_bytes b (emitted v c (item ∷ items)) (written c (item ∷ items))) uncut
     ∙ (ap (λ n. drop n (written c (item ∷ items))) sent ∙ sym (drop-drop (sendable (unsent v c item items)) (emitted v c items) (written c (item ∷ items)))))
     sent refl (done_open v c item items ok heard uncut) refl refl refl refl refl refl
-    (terminated_open v c item items ok heard uncut unrejected) (uncut_peer c (item ∷ items) uncut)
+    (terminated_open v c item items ok heard uncut unrejected) (uncut_both c (item ∷ items) uncut).1

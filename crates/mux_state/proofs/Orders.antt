@@ -12,9 +12,9 @@ use Rattle.mux_items.specs.Kept.{keys, is_known}
 use Rattle.mux_items.specs.Applying.{Allowed}
 use Rattle.mux_items.specs.Views.{precedes, insert_key, in_order, known_keys}
 use Rattle.mux_items.proofs.Applied.{allowed_tail}
+use Rattle.mux_items.proofs.Keys.{same_key_turned}
+use Rattle.mux_items.proofs.Offered.{heard_first, known_offered, offered_first}
 use Rattle.mux_state.specs.Book.{AreApart}
-use Rattle.mux_state.proofs.Known.{same_key_turned, known_offered, fresh_offer}
-use Rattle.mux_state.proofs.Law.{fresh_did}
 
 pub turned : (c key : ChannelKey) → same_key c key ≡ same_key key c
 turned c key = elim (cases_Bool (same_key c key)) [
@@ -98,6 +98,6 @@ apart_insert c (d ∷ ds) new apart =
 -- no channel is known twice
 pub known_apart : (v : Version) (items : List Item) → Allowed v items → AreApart (known_keys items)
 known_apart v [] ok = tt
-known_apart v (DidOffer key name size ∷ items) ok = apart_insert key (known_keys items) (any_in_order (same_key key) (keys items) ∙ unknown_before key items (fresh_did v key name size items ok).1) (known_apart v items ok.2)
-known_apart v (Got place key (Offer name size) ∷ items) ok = apart_insert key (known_keys items) (any_in_order (same_key key) (keys items) ∙ unknown_before key items (fresh_offer v key name size items ok.0.unrefused).1) (known_apart v items ok.2)
+known_apart v (DidOffer key name size ∷ items) ok = apart_insert key (known_keys items) (any_in_order (same_key key) (keys items) ∙ unknown_before key items (offered_first v key name size items ok).1) (known_apart v items ok.2)
+known_apart v (Got place key (Offer name size) ∷ items) ok = apart_insert key (known_keys items) (any_in_order (same_key key) (keys items) ∙ unknown_before key items (heard_first v key name size items ok.0.unrefused).1) (known_apart v items ok.2)
 known_apart v (item ∷ items) ok = known_apart v items (allowed_tail v item items ok)

@@ -11,11 +11,12 @@ use Rattle.mux_items.specs.Lists.{written, is_cut, before_cut, emitted_in, emitt
 use Rattle.mux_items.specs.Due.{content_frames, span, newly_emitted, completes, terminates, due_on, due}
 use Rattle.mux_items.specs.Applying.{Allowed}
 use Rattle.mux_items.proofs.Keys.{same_key_refl, same_key_true}
+use Rattle.mux_items.proofs.Permits.{accept_permits, complete_permits, terminate_permits, write_permits}
 use Rattle.mux_state.specs.State.{ChannelState, channel_at}
 use Rattle.mux_state.specs.Next.{sendable, is_done, frames_due, closed_state}
 use Rattle.mux_state.specs.Tests.{first_frame, due_in}
 use Rattle.mux_state.proofs.Open.{unsent, emitted_open, done_open, terminated_open}
-use Rattle.mux_state.proofs.Step.{accept_tells, write_tells, complete_tells, terminate_tells, IsOpen, is_open, absorbed_accept, absorbed_write, absorbed_complete, absorbed_answer, absorbed_content, absorbed_completion, absorbed_credit}
+use Rattle.mux_state.proofs.Step.{IsOpen, is_open, absorbed_accept, absorbed_write, absorbed_complete, absorbed_answer, absorbed_content, absorbed_completion, absorbed_credit}
 use Rattle.mux_state.proofs.Ignored.{StaysSent, stays_sent}
 use Rattle.mux_state.proofs.Law.{open_offered, absorbed_offered, open_heard, absorbed_heard, heard_or_sent}
 
@@ -129,18 +130,18 @@ channel_sends v c (DidOffer key name size) items named ok unrejected =
     (λ now. let o = open_offered v c name size items now in due_absorbed v c (first_frame v c (DidOffer c name size)) (DidOffer c name size) items _ now o o.uncut unrejected (absorbed_offered v c name size items now)) ok
 channel_sends v c (DidAccept key size) items named ok unrejected =
     subst (λ k. Allowed v (DidAccept k size ∷ items) → due v (DidAccept k size) items ≡ due_in c (is_running items) (DidAccept c size) (channel_at v c items)) (sym (same_key_true key c named))
-    (λ now. let told = accept_tells v c size items now.0 in let o = is_open v c items told.0 told.2 in due_absorbed v c (first_frame v c (DidAccept c size)) (DidAccept c size) items _ now o o.uncut unrejected (absorbed_accept v c size items o)) ok
+    (λ now. let told = accept_permits v c size items now.0 in let o = is_open v c items told.running told.heard in due_absorbed v c (first_frame v c (DidAccept c size)) (DidAccept c size) items _ now o o.uncut unrejected (absorbed_accept v c size items o)) ok
 channel_sends v c (DidWrite key bytes) items named ok unrejected =
     subst (λ k. Allowed v (DidWrite k bytes ∷ items) → due v (DidWrite k bytes) items ≡ due_in c (is_running items) (DidWrite c bytes) (channel_at v c items)) (sym (same_key_true key c named))
-    (λ now. let told = write_tells v c bytes items now.0 in let o = is_open v c items told.0 told.2 in due_absorbed v c [] (DidWrite c bytes) items _ now o o.uncut unrejected (absorbed_write v c bytes items o)) ok
+    (λ now. let told = (write_permits v c bytes items now.0).call in let o = is_open v c items told.running told.heard in due_absorbed v c [] (DidWrite c bytes) items _ now o o.uncut unrejected (absorbed_write v c bytes items o)) ok
 channel_sends v c (DidRead key max) items named ok unrejected =
     subst (λ k. due v (DidRead k max) items ≡ due_in c (is_running items) (DidRead c max) (channel_at v c items)) (sym (same_key_true key c named)) refl
 channel_sends v c (DidComplete key) items named ok unrejected =
     subst (λ k. Allowed v (DidComplete k ∷ items) → due v (DidComplete k) items ≡ due_in c (is_running items) (DidComplete c) (channel_at v c items)) (sym (same_key_true key c named))
-    (λ now. let told = complete_tells v c items now.0 in let o = is_open v c items told.0 told.2 in due_absorbed v c [] (DidComplete c) items _ now o o.uncut unrejected (absorbed_complete v c items o)) ok
+    (λ now. let told = (complete_permits v c items now.0).call in let o = is_open v c items told.running told.heard in due_absorbed v c [] (DidComplete c) items _ now o o.uncut unrejected (absorbed_complete v c items o)) ok
 channel_sends v c (DidTerminate key) items named ok unrejected =
     subst (λ k. Allowed v (DidTerminate k ∷ items) → due v (DidTerminate k) items ≡ due_in c (is_running items) (DidTerminate c) (channel_at v c items)) (sym (same_key_true key c named))
-    (λ now. due_terminated v c items (terminate_tells v c items now.0).2) ok
+    (λ now. due_terminated v c items (terminate_permits v c items now.0).heard) ok
 channel_sends v c (Got place key body) items named ok unrejected =
     subst (λ k. Allowed v (Got place k body ∷ items) → due v (Got place k body) items ≡ due_in c (is_running items) (Got place c body) (channel_at v c items)) (sym (same_key_true key c named))
     (λ now. frame_due v place c body items now unrejected) ok ∙ got_key place c key body (is_running items) (channel_at v c items)

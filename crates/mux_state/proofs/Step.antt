@@ -1,84 +1,22 @@
 -- What calls and heeded frames make of a channel, by its state.
-use Rattle.std.specs.Prelude.{ℕ, List, [], ◌∷◌, ◌++◌, length, drop, Bool, true, false, not, ◌&&◌, ◌||◌, if◌then◌else◌, Option, Some, None, is_none}
+use Rattle.std.specs.Prelude.{ℕ, List, [], ◌∷◌, ◌++◌, length, drop, Bool, true, false, not, ◌&&◌, ◌||◌, if◌then◌else◌, Option}
 use Rattle.std.proofs.Common.{◌≡◌, inl, inr, refl, sym, ◌∙◌, ap, length-append}
-use Rattle.std.proofs.lemmas.Bool.{cases_Bool, true≢false, false≢true, or_parts, not-false}
+use Rattle.std.proofs.lemmas.Bool.{cases_Bool, true≢false}
 use Rattle.std.proofs.lemmas.List.{drop-append-le}
 use Rattle.wire_base.specs.declared.frame.Version.{Version}
-use Rattle.wire_base.specs.declared.refusal.Refusal.{Refusal}
-use Rattle.wire_base.specs.declared.refusal.Refusal.TheVariants as refusal
-use Rattle.wire_base.specs.declared.reason.Reason.TheVariants as reason
-use Rattle.wire_base.specs.declared.state.Cause.{Cause}
 use Rattle.mux_items.specs.declared.channel.ChannelKey.{ChannelKey}
-use Rattle.mux_items.specs.Bodies.{FrameBody, OfferAccepted, Content, ContentWritingCompleted, ChannelTerminated, ContentProcessed, same_key}
-use Rattle.mux_items.specs.Items.{Item, DidAccept, DidWrite, DidComplete, DidTerminate, Got, End, is_running}
-use Rattle.mux_items.specs.Lists.{written, is_offered, is_cut, before_cut, emitted_in, emitted, has_terminated, is_terminated_by_peer, is_rejected, completion_in, is_finished, termination_emitted, taken, is_accepted, handed}
-use Rattle.mux_items.specs.Kept.{is_kept}
-use Rattle.mux_items.specs.Refusals.{unless_ended, open_refusal, writing_refusal, write_refusal, read_refusal, complete_refusal, terminate_refusal, accept_refusal, later_refusal}
+use Rattle.mux_items.specs.Bodies.{FrameBody, OfferAccepted, Content, ContentWritingCompleted, ChannelTerminated, ContentProcessed}
+use Rattle.mux_items.specs.Items.{Item, DidAccept, DidWrite, DidComplete, Got, is_running}
+use Rattle.mux_items.specs.Lists.{written, is_cut, before_cut, emitted_in, emitted, has_terminated, is_terminated_by_peer, is_rejected, completion_in, is_finished, termination_emitted, taken, is_accepted, handed}
 use Rattle.mux_items.specs.Applying.{Allowed}
 use Rattle.mux_items.proofs.Keys.{same_key_refl}
-use Rattle.mux_items.proofs.Permits.{or_else_none, if_none, accept_permits}
+use Rattle.mux_items.proofs.Open.{unterminated, heard_uncut}
 use Rattle.mux_items.proofs.Emission.{emitted_bound}
 use Rattle.mux_items.proofs.Taking.{handed_bound}
 use Rattle.mux_state.specs.State.{ChannelState, pending_bytes, channel_at}
 use Rattle.mux_state.specs.Next.{accepted_state, written_state, completing_state, closed_state, framed_state, settled}
 use Rattle.mux_state.proofs.Fields.{same_state, closed_drop}
 use Rattle.mux_state.proofs.Open.{unsent, channel_open}
-
--- what a call that isn't refused tells
-pub unless_none : (cause : Option Cause) (refused : Option Refusal) → unless_ended cause refused ≡ None → (is_none cause ≡ true) × (refused ≡ None)
-unless_none (Some cause) refused e = absurd (cc)
-unless_none None refused e = (refl, e)
-
-pub open_tells : (v : Version) (c : ChannelKey) (items : List Item) → open_refusal v c items ≡ None → (is_kept v c items ≡ true) × (termination_emitted v c items ≡ false)
-open_tells v c items e =
-    let kept = if_none (not (is_kept v c items)) refusal.NoChannel (if termination_emitted v c items then Some refusal.NotOpen else None) e in
-    (not-false (is_kept v c items) kept.0, (if_none (termination_emitted v c items) refusal.NotOpen None kept.1).0)
-
-pub writing_tells : (v : Version) (c : ChannelKey) (items : List Item) → writing_refusal v c items ≡ None → (is_kept v c items ≡ true) × (termination_emitted v c items ≡ false)
-writing_tells v c items e = open_tells v c items (or_else_none _ _ e).0
-
-pub write_tells : (v : Version) (c : ChannelKey) (bytes : List ℕ) (items : List Item) → write_refusal v c bytes items ≡ None → (is_running items ≡ true) × (is_kept v c items ≡ true) × (termination_emitted v c items ≡ false)
-write_tells v c bytes items e =
-    let live = unless_none _ _ e in
-    let open_ = writing_tells v c items (or_else_none _ _ live.1).0 in
-    (live.0, open_.0, open_.1)
-
-pub complete_tells : (v : Version) (c : ChannelKey) (items : List Item) → complete_refusal v c items ≡ None → (is_running items ≡ true) × (is_kept v c items ≡ true) × (termination_emitted v c items ≡ false)
-complete_tells v c items e =
-    let live = unless_none _ _ e in
-    let open_ = writing_tells v c items live.1 in
-    (live.0, open_.0, open_.1)
-
-pub terminate_tells : (v : Version) (c : ChannelKey) (items : List Item) → terminate_refusal v c items ≡ None → (is_running items ≡ true) × (is_kept v c items ≡ true) × (termination_emitted v c items ≡ false)
-terminate_tells v c items e =
-    let live = unless_none _ _ e in
-    let open_ = open_tells v c items live.1 in
-    (live.0, open_.0, open_.1)
-
-pub read_tells : (v : Version) (c : ChannelKey) (items : List Item) → read_refusal v c items ≡ None → is_kept v c items ≡ true
-read_tells v c items e = not-false (is_kept v c items) (if_none (not (is_kept v c items)) refusal.NoChannel _ e).0
-
-pub accept_tells : (v : Version) (c : ChannelKey) (size : ℕ) (items : List Item) → accept_refusal v c size items ≡ None → (is_running items ≡ true) × (is_kept v c items ≡ true) × (termination_emitted v c items ≡ false)
-accept_tells v c size items e =
-    let live = unless_none _ _ e in
-    (live.0, not-false (is_kept v c items) (if_none (not (is_kept v c items)) refusal.NoChannel _ live.1).0, accept_permits v c size items e)
-
-pub later_tells : (v : Version) (c : ChannelKey) (body : FrameBody) (items : List Item) → later_refusal v c body items ≡ None → is_offered c items ≡ true
-later_tells v c body items e = not-false (is_offered c items) (if_none (not (is_offered c items)) reason.NoChannel _ e).0
-
--- a channel of which nothing is sent and that runs has no cut
-pub uncut_from : (c : ChannelKey) (items : List Item) → is_running items ≡ true → has_terminated c items ≡ false → is_terminated_by_peer c items ≡ false → is_cut c items ≡ false
-uncut_from c [] running h p = refl
-uncut_from c (DidTerminate key ∷ items) running h p = elim (cases_Bool (same_key key c)) [
-  | inl same ↦ absurd (true≢false (sym (ap (λ b. if b then true else has_terminated c items) same) ∙ h))
-  | inr differ ↦ ap (λ b. if b then true else is_cut c items) differ ∙ uncut_from c items running (sym (ap (λ b. if b then true else has_terminated c items) differ) ∙ h) p
-]
-uncut_from c (Got place key ChannelTerminated ∷ items) running h p = elim (cases_Bool (same_key key c)) [
-  | inl same ↦ absurd (true≢false (sym (ap (λ b. if b then true else is_terminated_by_peer c items) same) ∙ p))
-  | inr differ ↦ ap (λ b. if b then true else is_cut c items) differ ∙ uncut_from c items running h (sym (ap (λ b. if b then true else is_terminated_by_peer c items) differ) ∙ p)
-]
-uncut_from c (End cause ∷ items) running h p = absurd (false≢true running)
-uncut_from c (item ∷ items) running h p = uncut_from c items running h p
 
 -- nothing is sent or cut
 pub record IsOpen (v : Version) (c : ChannelKey) (items : List Item) : Type 0 where
@@ -90,10 +28,8 @@ pub record IsOpen (v : Version) (c : ChannelKey) (items : List Item) : Type 0 wh
 
 pub is_open : (v : Version) (c : ChannelKey) (items : List Item) → is_running items ≡ true → termination_emitted v c items ≡ false → IsOpen v c items
 is_open v c items running heard =
-    let a = or_parts (has_terminated c items || is_terminated_by_peer c items || is_rejected c items) (is_finished v c items) heard in
-    let b = or_parts (has_terminated c items || is_terminated_by_peer c items) (is_rejected c items) a.0 in
-    let d = or_parts (has_terminated c items) (is_terminated_by_peer c items) b.0 in
-    record { heard = heard; here = d.0; peer = d.1; unrejected = b.1; uncut = uncut_from c items running d.0 d.1 }
+    let parts = unterminated v c items heard in
+    record { heard = heard; here = parts.here; peer = parts.peer; unrejected = parts.unrejected; uncut = heard_uncut v c items running heard }
 
 -- the state of such a channel
 abbrev pub plain : Version → ChannelKey → List Item → ChannelState
