@@ -14,7 +14,7 @@ use Rattle.mux_items.specs.Refusals.{is_early, is_above_window, heeded_refusal, 
 use Rattle.mux_items.proofs.Keys.{same_key_refl}
 use Rattle.mux_items.specs.Sums.{total, credits}
 use Rattle.mux_items.proofs.Flips.{other_other}
-use Rattle.mux_items.proofs.Staging.{Stage, Fresh, Open, Done, Over, Wrong, next_stage, stage_after, stage_at, is_open, is_fresh, is_wrong, is_talking, is_past}
+use Rattle.mux_items.proofs.Staging.{Stage, Fresh, Open, next_stage, stage_after, stage_at, is_open, is_fresh, is_wrong, is_talking, is_past}
 use Rattle.mux_items.proofs.Stages.{never_stage, stage_after-append, sent_stage}
 use Rattle.mux_items.proofs.Heard.{heard_at, heard-flip, next_not_fresh, offered_came, never_came, accepted_came, talking_accepted, completed_came}
 use Rattle.mux_items.proofs.Talks.{talk_in, acceptance_in, talk_sent, acceptance_sent, acceptance_got}
@@ -52,26 +52,19 @@ in_order v c body rest x y b is =
 opening : (own : Bool) (s : Stage) (name : List ℕ) (size : Option ℕ) → is_wrong (next_stage own s (Offer name size)) ≡ false → (own ≡ true) × (is_fresh s ≡ true)
 opening true Fresh name size e = (refl, refl)
 opening false Fresh name size e = absurd (true≢false e)
-opening own Open name size e = absurd (true≢false e)
-opening own Done name size e = absurd (true≢false e)
-opening own Over name size e = absurd (true≢false e)
-opening own Wrong name size e = absurd (true≢false e)
+opening own s name size e = absurd (true≢false e)
 
 content_open : (own : Bool) (s : Stage) (bytes : List ℕ) → is_wrong (next_stage own s (Content bytes)) ≡ false → (is_talking s ≡ true) × (is_past s ≡ false)
+content_open own Open bytes e = (refl, refl)
 content_open true Fresh bytes e = absurd (true≢false e)
 content_open false Fresh bytes e = absurd (true≢false e)
-content_open own Open bytes e = (refl, refl)
-content_open own Done bytes e = absurd (true≢false e)
-content_open own Over bytes e = absurd (true≢false e)
-content_open own Wrong bytes e = absurd (true≢false e)
+content_open own s bytes e = absurd (true≢false e)
 
 completion_open : (own : Bool) (s : Stage) → is_wrong (next_stage own s ContentWritingCompleted) ≡ false → (is_talking s ≡ true) × (is_past s ≡ false)
+completion_open own Open e = (refl, refl)
 completion_open true Fresh e = absurd (true≢false e)
 completion_open false Fresh e = absurd (true≢false e)
-completion_open own Open e = (refl, refl)
-completion_open own Done e = absurd (true≢false e)
-completion_open own Over e = absurd (true≢false e)
-completion_open own Wrong e = absurd (true≢false e)
+completion_open own s e = absurd (true≢false e)
 
 -- where the peer offered, a frame that isn't its offer comes after it
 abbrev is_other : FrameBody → Bool
@@ -80,15 +73,8 @@ is_other body = true
 
 later_than_offer : (s : Stage) (body : FrameBody) → is_other body ≡ true → is_wrong (next_stage true s body) ≡ false → is_fresh s ≡ false
 later_than_offer Fresh (Offer name size) o e = absurd (false≢true o)
-later_than_offer Fresh (OfferAccepted size) o e = absurd (true≢false e)
-later_than_offer Fresh (Content bytes) o e = absurd (true≢false e)
-later_than_offer Fresh ContentWritingCompleted o e = absurd (true≢false e)
-later_than_offer Fresh ChannelTerminated o e = absurd (true≢false e)
-later_than_offer Fresh (ContentProcessed count) o e = absurd (true≢false e)
-later_than_offer Open body o e = refl
-later_than_offer Done body o e = refl
-later_than_offer Over body o e = refl
-later_than_offer Wrong body o e = refl
+later_than_offer Fresh body o e = absurd (true≢false e)
+later_than_offer s body o e = refl
 
 -- a frame that isn't an offer comes on a channel that was offered
 pub next_offered : (v : Version) (c : ChannelKey) (body : FrameBody) (rest : List ChannelFrame) (x y : List Item) → Between v x y → IsNext v c body rest x y → is_other body ≡ true → is_offered c x ≡ true

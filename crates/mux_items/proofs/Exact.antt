@@ -67,15 +67,7 @@ item_acknowledged v c (DidRead key max) items two ok runs heard = elim (key_case
   | inl same ↦ subst (λ k. credits c (due v (DidRead k max) items) + handed v c items ≡ handed v c (DidRead k max ∷ items)) (sym same) (read_acknowledged v c max items two ok.1 runs heard)
   | inr differ ↦ omega (arith, credits_due v c (DidRead key max) items, ap (λ b. if b then handed v c items + min max (unread_count (is_dropped v c items) (length (taken v c items)) (handed v c items)) else handed v c items) differ)
 ]
-item_acknowledged v c (Hello party) items two ok runs heard = omega (arith, credits_due v c (Hello party) items)
-item_acknowledged v c (DidOffer key name size) items two ok runs heard = omega (arith, credits_due v c (DidOffer key name size) items)
-item_acknowledged v c (DidAccept key size) items two ok runs heard = omega (arith, credits_due v c (DidAccept key size) items)
-item_acknowledged v c (DidWrite key bytes) items two ok runs heard = omega (arith, credits_due v c (DidWrite key bytes) items)
-item_acknowledged v c (DidComplete key) items two ok runs heard = omega (arith, credits_due v c (DidComplete key) items)
-item_acknowledged v c (DidTerminate key) items two ok runs heard = omega (arith, credits_due v c (DidTerminate key) items)
-item_acknowledged v c (Got place key body) items two ok runs heard = omega (arith, credits_due v c (Got place key body) items)
-item_acknowledged v c (Rejected place key body) items two ok runs heard = omega (arith, credits_due v c (Rejected place key body) items)
-item_acknowledged v c (End cause) items two ok runs heard = omega (arith, credits_due v c (End cause) items)
+item_acknowledged v c item items two ok runs heard = omega (arith, credits_due v c item items)
 
 pub credits-sent : (v : Version) (c : ChannelKey) (items : List Item) → is_one v ≡ false → Allowed v items → is_running items ≡ true → termination_emitted v c items ≡ false → credits c (sent v items) ≡ handed v c items
 credits-sent v c [] two ok runs heard = refl
@@ -95,28 +87,20 @@ stays_by true n k e = omega (arith, e)
 stays_by false n k e = omega arith
 
 acknowledged_frame : (v : Version) (c : ChannelKey) (place : ℕ) (key : ChannelKey) (body : FrameBody) (items : List Item) → acknowledged v c (Got place key body ∷ items) ≡ acknowledged v c items + (if heeds v key c items then credit_in body else 0)
-acknowledged_frame v c place key (Offer name size) items = stays_by (heeds v key c items) (acknowledged v c items) 0 refl
-acknowledged_frame v c place key (OfferAccepted size) items = stays_by (heeds v key c items) (acknowledged v c items) 0 refl
-acknowledged_frame v c place key (Content bytes) items = stays_by (heeds v key c items) (acknowledged v c items) 0 refl
-acknowledged_frame v c place key ContentWritingCompleted items = stays_by (heeds v key c items) (acknowledged v c items) 0 refl
-acknowledged_frame v c place key ChannelTerminated items = stays_by (heeds v key c items) (acknowledged v c items) 0 refl
 acknowledged_frame v c place key (ContentProcessed count) items = grows_by (heeds v key c items) (acknowledged v c items) count count refl
+acknowledged_frame v c place key body items = stays_by (heeds v key c items) (acknowledged v c items) 0 refl
 
 granted_frame : (v : Version) (c : ChannelKey) (place : ℕ) (key : ChannelKey) (body : FrameBody) (items : List Item) → granted v c (Got place key body ∷ items) ≡ granted v c items + (if heeds v key c items then window_in body + credit_in body else 0)
 granted_frame v c place key (Offer name size) items = grows_by (heeds v key c items) (granted v c items) (window_of size) (window_of size + 0) (omega arith)
 granted_frame v c place key (OfferAccepted size) items = grows_by (heeds v key c items) (granted v c items) (window_of size) (window_of size + 0) (omega arith)
-granted_frame v c place key (Content bytes) items = stays_by (heeds v key c items) (granted v c items) (0 + 0) refl
-granted_frame v c place key ContentWritingCompleted items = stays_by (heeds v key c items) (granted v c items) (0 + 0) refl
-granted_frame v c place key ChannelTerminated items = stays_by (heeds v key c items) (granted v c items) (0 + 0) refl
 granted_frame v c place key (ContentProcessed count) items = grows_by (heeds v key c items) (granted v c items) count (0 + count) (omega arith)
+granted_frame v c place key body items = stays_by (heeds v key c items) (granted v c items) (0 + 0) refl
 
 granted_in_frame : (c : ChannelKey) (place : ℕ) (key : ChannelKey) (body : FrameBody) (items : List Item) → granted_in c (Got place key body ∷ items) ≡ granted_in c items + (if same_key key c then window_in body + credit_in body else 0)
 granted_in_frame c place key (Offer name size) items = grows_by (same_key key c) (granted_in c items) (window_of size) (window_of size + 0) (omega arith)
 granted_in_frame c place key (OfferAccepted size) items = grows_by (same_key key c) (granted_in c items) (window_of size) (window_of size + 0) (omega arith)
-granted_in_frame c place key (Content bytes) items = stays_by (same_key key c) (granted_in c items) (0 + 0) refl
-granted_in_frame c place key ContentWritingCompleted items = stays_by (same_key key c) (granted_in c items) (0 + 0) refl
-granted_in_frame c place key ChannelTerminated items = stays_by (same_key key c) (granted_in c items) (0 + 0) refl
 granted_in_frame c place key (ContentProcessed count) items = grows_by (same_key key c) (granted_in c items) count (0 + count) (omega arith)
+granted_in_frame c place key body items = stays_by (same_key key c) (granted_in c items) (0 + 0) refl
 
 heeded_amount : (same over : Bool) (k : ℕ) → over ≡ false → (if same && not over then k else 0) ≡ (if same then k else 0)
 heeded_amount same true k e = absurd (true≢false e)

@@ -39,34 +39,14 @@ heard_next c key body items e = heard_push c key body items ∙ ap (λ b. if b t
 
 first_not_fresh : (own : Bool) (body : FrameBody) → is_fresh (next_stage own Fresh body) ≡ false
 first_not_fresh true (Offer name size) = refl
-first_not_fresh true (OfferAccepted size) = refl
-first_not_fresh true (Content bytes) = refl
-first_not_fresh true ContentWritingCompleted = refl
-first_not_fresh true ChannelTerminated = refl
-first_not_fresh true (ContentProcessed count) = refl
-first_not_fresh false (Offer name size) = refl
 first_not_fresh false (OfferAccepted size) = refl
-first_not_fresh false (Content bytes) = refl
-first_not_fresh false ContentWritingCompleted = refl
-first_not_fresh false ChannelTerminated = refl
-first_not_fresh false (ContentProcessed count) = refl
+first_not_fresh own body = refl
 
 pub next_not_fresh : (own : Bool) (s : Stage) (body : FrameBody) → is_fresh (next_stage own s body) ≡ false
 next_not_fresh own Fresh body = first_not_fresh own body
 next_not_fresh own Open (Offer name size) = refl
-next_not_fresh own Open (OfferAccepted size) = refl
-next_not_fresh own Open (Content bytes) = refl
-next_not_fresh own Open ContentWritingCompleted = refl
-next_not_fresh own Open ChannelTerminated = refl
-next_not_fresh own Open (ContentProcessed count) = refl
 next_not_fresh own Done (Offer name size) = refl
-next_not_fresh own Done (OfferAccepted size) = refl
-next_not_fresh own Done (Content bytes) = refl
-next_not_fresh own Done ContentWritingCompleted = refl
-next_not_fresh own Done ChannelTerminated = refl
-next_not_fresh own Done (ContentProcessed count) = refl
-next_not_fresh own Over body = refl
-next_not_fresh own Wrong body = refl
+next_not_fresh own s body = refl
 
 -- what holds of each next stage where it held before
 kept : (p : Stage → Bool) (b : Bool) (c key : ChannelKey) (body : FrameBody) (items : List Item) → ((own : Bool) (s : Stage) (body : FrameBody) → p s ≡ b → p (next_stage own s body) ≡ b) → p (heard_at c items) ≡ b → p (heard_after c Fresh (got items ++ frame_on key body ∷ [])) ≡ b
@@ -134,16 +114,11 @@ accepted_unfresh v c items ok e = elim (cases_Bool c.own) [
 
 -- where the peer's acceptance came, an open own channel is accepted
 talked_before : (s : Stage) (body : FrameBody) → is_talking (next_stage false s body) ≡ true → ((size : Option ℕ) → body ≡ OfferAccepted size → ⊥) → is_talking s ≡ true
-talked_before Fresh (Offer name size) e h = absurd (false≢true e)
 talked_before Fresh (OfferAccepted size) e h = absurd (h size refl)
-talked_before Fresh (Content bytes) e h = absurd (false≢true e)
-talked_before Fresh ContentWritingCompleted e h = absurd (false≢true e)
-talked_before Fresh ChannelTerminated e h = absurd (false≢true e)
-talked_before Fresh (ContentProcessed count) e h = absurd (false≢true e)
-talked_before Open body e h = refl
-talked_before Done body e h = refl
+talked_before Fresh body e h = absurd (false≢true e)
 talked_before Over body e h = absurd (false≢true e)
 talked_before Wrong body e h = absurd (false≢true e)
+talked_before s body e h = refl
 
 heard_talking : (c key : ChannelKey) (body : FrameBody) (items : List Item) → c.own ≡ true → is_talking (heard_after c Fresh (got items ++ frame_on key body ∷ [])) ≡ true → ((size : Option ℕ) → body ≡ OfferAccepted size → ⊥) → is_talking (heard_at c items) ≡ true
 heard_talking c key body items own e h = elim (cases_Bool (same_key key c)) [
@@ -181,21 +156,12 @@ past_next : (own : Bool) (s : Stage) (body : FrameBody) → is_past s ≡ true �
 past_next own Fresh body e = absurd (false≢true e)
 past_next own Open body e = absurd (false≢true e)
 past_next own Done (Offer name size) e = refl
-past_next own Done (OfferAccepted size) e = refl
-past_next own Done (Content bytes) e = refl
-past_next own Done ContentWritingCompleted e = refl
-past_next own Done ChannelTerminated e = refl
-past_next own Done (ContentProcessed count) e = refl
-past_next own Over body e = refl
-past_next own Wrong body e = refl
+past_next own s body e = refl
 
 past_completed : (own : Bool) (s : Stage) → is_past (next_stage own s ContentWritingCompleted) ≡ true
 past_completed true Fresh = refl
 past_completed false Fresh = refl
-past_completed own Open = refl
-past_completed own Done = refl
-past_completed own Over = refl
-past_completed own Wrong = refl
+past_completed own s = refl
 
 pub completed_came : (v : Version) (c : ChannelKey) (items : List Item) → is_completed v c items ≡ true → is_past (heard_at c items) ≡ true
 completed_came v c [] e = absurd (false≢true e)

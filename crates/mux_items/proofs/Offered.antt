@@ -136,11 +136,7 @@ elsewhere v c (DidRead key max) items ok common e = (unless_offered key c items 
 elsewhere v c (DidComplete key) items ok common e = (unless_offered key c items (kept_offered v key items (complete_permits v key items ok.0).call.kept) e, e)
 elsewhere v c (DidTerminate key) items ok common e = (unless_offered key c items (kept_offered v key items (terminate_permits v key items ok.0).kept) e, e)
 elsewhere v c (Got place key (Offer name size)) items ok common e = if_false (same_key key c) (is_offered c items) e
-elsewhere v c (Got place key (OfferAccepted size)) items ok common e = (unless_offered key c items (later_permits v key (OfferAccepted size) items ok.0.unrefused).0 e, e)
-elsewhere v c (Got place key (Content bytes)) items ok common e = (unless_offered key c items (later_permits v key (Content bytes) items ok.0.unrefused).0 e, e)
-elsewhere v c (Got place key ContentWritingCompleted) items ok common e = (unless_offered key c items (later_permits v key ContentWritingCompleted items ok.0.unrefused).0 e, e)
-elsewhere v c (Got place key ChannelTerminated) items ok common e = (unless_offered key c items (later_permits v key ChannelTerminated items ok.0.unrefused).0 e, e)
-elsewhere v c (Got place key (ContentProcessed count)) items ok common e = (unless_offered key c items (later_permits v key (ContentProcessed count) items ok.0.unrefused).0 e, e)
+elsewhere v c (Got place key body) items ok common e = (unless_offered key c items (later_permits v key body items ok.0.unrefused).0 e, e)
 elsewhere v c (Rejected place key body) items ok common e = if_false (same_key key c) (is_offered c items) e
 
 -- what other items leave unchanged, and the handshake and the end leave as at the start, is as at the start

@@ -48,10 +48,7 @@ by_right false false false = refl
 pub accepting : (own : Bool) (s : Stage) (size : Option ℕ) → is_wrong (next_stage own s (OfferAccepted size)) ≡ false → (own ≡ false) × (is_fresh s ≡ true)
 accepting false Fresh size e = (refl, refl)
 accepting true Fresh size e = absurd (true≢false e)
-accepting own Open size e = absurd (true≢false e)
-accepting own Done size e = absurd (true≢false e)
-accepting own Over size e = absurd (true≢false e)
-accepting own Wrong size e = absurd (true≢false e)
+accepting own s size e = absurd (true≢false e)
 
 -- a channel that is open gets no window again
 
@@ -59,18 +56,11 @@ no_window : (own : Bool) (s : Stage) (body : FrameBody) → is_fresh s ≡ false
 no_window own Fresh body f e = absurd (true≢false f)
 no_window own Open (Offer name size) f e = absurd (true≢false e)
 no_window own Open (OfferAccepted size) f e = absurd (true≢false e)
-no_window own Open (Content bytes) f e = refl
-no_window own Open ContentWritingCompleted f e = refl
-no_window own Open ChannelTerminated f e = refl
-no_window own Open (ContentProcessed count) f e = refl
+no_window own Open body f e = refl
 no_window own Done (Offer name size) f e = absurd (true≢false e)
 no_window own Done (OfferAccepted size) f e = absurd (true≢false e)
-no_window own Done (Content bytes) f e = refl
-no_window own Done ContentWritingCompleted f e = refl
-no_window own Done ChannelTerminated f e = refl
-no_window own Done (ContentProcessed count) f e = refl
-no_window own Over body f e = absurd (true≢false e)
-no_window own Wrong body f e = absurd (true≢false e)
+no_window own Done body f e = refl
+no_window own s body f e = absurd (true≢false e)
 
 pub no_windows : (c : ChannelKey) (s : Stage) (fs : List ChannelFrame) → is_fresh s ≡ false → is_wrong (stage_after c s fs) ≡ false → windows c fs ≡ 0
 no_windows c s [] f e = refl
@@ -118,12 +108,9 @@ none_on_contents c (g ∷ fs) e =
     ap (λ b. (if b then content_of g.body else []) ++ contents c fs) parts.0 ∙ none_on_contents c fs parts.1
 
 done_next : (own : Bool) (body : FrameBody) → is_wrong (next_stage own Done body) ≡ false → (content_of body ≡ []) × ((next_stage own Done body ≡ Done) ⊎ (next_stage own Done body ≡ Over))
-done_next own (Offer name size) e = absurd (true≢false e)
-done_next own (OfferAccepted size) e = absurd (true≢false e)
-done_next own (Content bytes) e = absurd (true≢false e)
-done_next own ContentWritingCompleted e = absurd (true≢false e)
 done_next own ChannelTerminated e = (refl, inr refl)
 done_next own (ContentProcessed count) e = (refl, inl refl)
+done_next own body e = absurd (true≢false e)
 
 pub done_quiet : (c : ChannelKey) (fs : List ChannelFrame) → is_wrong (stage_after c Done fs) ≡ false → contents c fs ≡ []
 done_quiet c [] e = refl
@@ -155,20 +142,17 @@ body_right : (v : Version) (c : ChannelKey) (items : List Item) (body : FrameBod
 body_right v c items body before after ok e = right_before c (next_stage c.own (stage_after c Fresh before) body) after (cut_right v c items body before after ok e)
 
 completed_next : (own : Bool) (s : Stage) → is_wrong (next_stage own s ContentWritingCompleted) ≡ false → next_stage own s ContentWritingCompleted ≡ Done
+completed_next own Open e = refl
 completed_next true Fresh e = absurd (true≢false e)
 completed_next false Fresh e = absurd (true≢false e)
-completed_next own Open e = refl
-completed_next own Done e = absurd (true≢false e)
-completed_next own Over e = absurd (true≢false e)
-completed_next own Wrong e = absurd (true≢false e)
+completed_next own s e = absurd (true≢false e)
 
 terminated_next : (own : Bool) (s : Stage) → is_wrong (next_stage own s ChannelTerminated) ≡ false → next_stage own s ChannelTerminated ≡ Over
 terminated_next true Fresh e = absurd (true≢false e)
 terminated_next false Fresh e = refl
 terminated_next own Open e = refl
 terminated_next own Done e = refl
-terminated_next own Over e = absurd (true≢false e)
-terminated_next own Wrong e = absurd (true≢false e)
+terminated_next own s e = absurd (true≢false e)
 
 pub ordered : (v : Version) (c : ChannelKey) (items : List Item) → Allowed v items → IsOrdered v c items
 ordered v c items ok = record {

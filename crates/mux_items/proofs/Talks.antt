@@ -13,7 +13,7 @@ use Rattle.mux_items.proofs.Keys.{key_cases}
 use Rattle.mux_items.proofs.Emission.{accepted_in_more, emitted_more}
 use Rattle.mux_items.proofs.Applied.{allowed_tail}
 use Rattle.mux_items.specs.Sums.{amount_on, total}
-use Rattle.mux_items.proofs.Totals.{IsPlainAmount, total-append, total-push, total_due_on, total_if, none_on, acknowledgement_none}
+use Rattle.mux_items.proofs.Totals.{IsPlainAmount, total-append, total-push, total_due, total_if, none_on, acknowledgement_none}
 use Rattle.mux_items.proofs.Emits.{none_emitted, completion_in_all}
 use Rattle.mux_items.proofs.Stages.{accepted_before}
 use Rattle.mux_items.proofs.Permits.{accept_permits}
@@ -101,22 +101,15 @@ talk_sent v c (item ∷ items) e = omega (arith, talk_sent v c items (false_from
 acceptance_plain : IsPlainAmount acceptance_in
 acceptance_plain = record { content = λ bytes. refl; completion = refl; termination = refl }
 
+unaccepted_key : (same x : Bool) → (if same then true else x) ≡ false → same ≡ false
+unaccepted_key true x e = absurd (true≢false e)
+unaccepted_key false x e = refl
+
 acceptance_due : (v : Version) (c : ChannelKey) (item : Item) (items : List Item) → is_accepted v c (item ∷ items) ≡ false → total acceptance_in c (due v item items) ≡ 0
-acceptance_due v c (Hello party) items e = refl
-acceptance_due v c (DidOffer key name size) items e = omega (arith, total_due_on acceptance_in v c key (frame_on key (Offer name (written_window v size)) ∷ []) (DidOffer key name size) items acceptance_plain, none_on (same_key key c) 0 refl)
-acceptance_due v c (DidAccept key size) items e =
-    omega (arith, total_due_on acceptance_in v c key (frame_on key (OfferAccepted (written_window v size)) ∷ []) (DidAccept key size) items acceptance_plain, ap {B = ℕ} (λ b. if b then 1 else 0) (not_same (same_key key c) (is_accepted v c items) e))
-  where
-    not_same : (b x : Bool) → (if b then true else x) ≡ false → b ≡ false
-    not_same true x e = absurd (true≢false e)
-    not_same false x e = refl
-acceptance_due v c (DidWrite key bytes) items e = total_due_on acceptance_in v c key [] (DidWrite key bytes) items acceptance_plain
+acceptance_due v c (DidOffer key name size) items e = omega (arith, total_due acceptance_in v c (DidOffer key name size) items acceptance_plain, none_on (same_key key c) 0 refl)
+acceptance_due v c (DidAccept key size) items e = omega (arith, total_due acceptance_in v c (DidAccept key size) items acceptance_plain, ap {B = ℕ} (λ b. if b then 1 else 0) (unaccepted_key (same_key key c) (is_accepted v c items) e))
 acceptance_due v c (DidRead key max) items e = acknowledgement_none acceptance_in v c key (min max (length (unread v key items))) items refl
-acceptance_due v c (DidComplete key) items e = total_due_on acceptance_in v c key [] (DidComplete key) items acceptance_plain
-acceptance_due v c (DidTerminate key) items e = total_due_on acceptance_in v c key [] (DidTerminate key) items acceptance_plain
-acceptance_due v c (Got place key body) items e = total_due_on acceptance_in v c key [] (Got place key body) items acceptance_plain
-acceptance_due v c (Rejected place key body) items e = total_if acceptance_in c key ChannelTerminated true refl
-acceptance_due v c (End cause) items e = refl
+acceptance_due v c item items e = total_due acceptance_in v c item items acceptance_plain
 
 pub acceptance_sent : (v : Version) (c : ChannelKey) (items : List Item) → is_accepted v c items ≡ false → total acceptance_in c (sent v items) ≡ 0
 acceptance_sent v c [] e = refl

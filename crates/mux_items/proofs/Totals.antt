@@ -83,45 +83,41 @@ acknowledgement_none amount v c key count items e = of_three (is_one v) (count =
     of_three false true live = refl
     of_three false false live = total_if amount c key (ContentProcessed count) live e
 
+-- the frame that an item itself makes, before content, completion and termination
+abbrev first_frames : Version → Item → List Item → List ChannelFrame
+first_frames v (DidOffer key name size) items = frame_on key (Offer name (written_window v size)) ∷ []
+first_frames v (DidAccept key size) items = frame_on key (OfferAccepted (written_window v size)) ∷ []
+first_frames v (DidRead key max) items = acknowledgement v key (min max (length (unread v key items))) items
+first_frames v item items = []
+
+pub total_due : (amount : FrameBody → ℕ) (v : Version) (c : ChannelKey) (item : Item) (items : List Item) → IsPlainAmount amount → total amount c (due v item items) ≡ total amount c (first_frames v item items)
+total_due amount v c (Hello party) items p = refl
+total_due amount v c (DidOffer key name size) items p = total_due_on amount v c key (first_frames v (DidOffer key name size) items) (DidOffer key name size) items p
+total_due amount v c (DidAccept key size) items p = total_due_on amount v c key (first_frames v (DidAccept key size) items) (DidAccept key size) items p
+total_due amount v c (DidWrite key bytes) items p = total_due_on amount v c key [] (DidWrite key bytes) items p
+total_due amount v c (DidRead key max) items p = refl
+total_due amount v c (DidComplete key) items p = total_due_on amount v c key [] (DidComplete key) items p
+total_due amount v c (DidTerminate key) items p = total_due_on amount v c key [] (DidTerminate key) items p
+total_due amount v c (Got place key body) items p = total_due_on amount v c key [] (Got place key body) items p
+total_due amount v c (Rejected place key body) items p = total_if amount c key ChannelTerminated true p.termination
+total_due amount v c (End cause) items p = refl
+
 -- an end tells its whole window
+
+window_due : (v : Version) (c : ChannelKey) (item : Item) (items : List Item) → is_one v ≡ false → window c items + windows c (first_frames v item items) ≡ window c (item ∷ items)
+window_due v c (DidOffer key name size) items two = omega (arith, ap (λ n. if same_key key c then n else 0) (written_window_is v size two), plus_if (same_key key c) (window c items) size)
+window_due v c (DidAccept key size) items two = omega (arith, ap (λ n. if same_key key c then n else 0) (written_window_is v size two), plus_if (same_key key c) (window c items) size)
+window_due v c (DidRead key max) items two = omega (arith, acknowledgement_none window_in v c key (min max (length (unread v key items))) items refl)
+window_due v c item items two = omega arith
+
 pub windows-sent : (v : Version) (c : ChannelKey) (items : List Item) → is_one v ≡ false → windows c (sent v items) ≡ window c items
 windows-sent v c [] two = refl
-windows-sent v c (Hello party ∷ items) two = omega (arith, windows-sent v c items two, total-append window_in c (sent v items) [])
-windows-sent v c (DidOffer key name size ∷ items) two =
-    let first = frame_on key (Offer name (written_window v size)) ∷ [] in
-    omega (
-      arith,
-      windows-sent v c items two,
-      total-append window_in c (sent v items) (due v (DidOffer key name size) items),
-      total_due_on window_in v c key first (DidOffer key name size) items windows_plain,
-      ap (λ n. if same_key key c then n else 0) (written_window_is v size two),
-      plus_if (same_key key c) (window c items) size,
-    )
-windows-sent v c (DidAccept key size ∷ items) two =
-    let first = frame_on key (OfferAccepted (written_window v size)) ∷ [] in
-    omega (
-      arith,
-      windows-sent v c items two,
-      total-append window_in c (sent v items) (due v (DidAccept key size) items),
-      total_due_on window_in v c key first (DidAccept key size) items windows_plain,
-      ap (λ n. if same_key key c then n else 0) (written_window_is v size two),
-      plus_if (same_key key c) (window c items) size,
-    )
-windows-sent v c (DidWrite key bytes ∷ items) two = omega (arith, windows-sent v c items two, total-append window_in c (sent v items) (due v (DidWrite key bytes) items), total_due_on window_in v c key [] (DidWrite key bytes) items windows_plain)
-windows-sent v c (DidRead key max ∷ items) two = omega (arith, windows-sent v c items two, total-append window_in c (sent v items) (due v (DidRead key max) items), acknowledgement_none window_in v c key (min max (length (unread v key items))) items refl)
-windows-sent v c (DidComplete key ∷ items) two = omega (arith, windows-sent v c items two, total-append window_in c (sent v items) (due v (DidComplete key) items), total_due_on window_in v c key [] (DidComplete key) items windows_plain)
-windows-sent v c (DidTerminate key ∷ items) two = omega (arith, windows-sent v c items two, total-append window_in c (sent v items) (due v (DidTerminate key) items), total_due_on window_in v c key [] (DidTerminate key) items windows_plain)
-windows-sent v c (Got place key body ∷ items) two = omega (arith, windows-sent v c items two, total-append window_in c (sent v items) (due v (Got place key body) items), total_due_on window_in v c key [] (Got place key body) items windows_plain)
-windows-sent v c (Rejected place key body ∷ items) two = omega (arith, windows-sent v c items two, total-append window_in c (sent v items) (due v (Rejected place key body) items), total_if window_in c key ChannelTerminated true refl)
-windows-sent v c (End cause ∷ items) two = omega (arith, windows-sent v c items two, total-append window_in c (sent v items) [])
+windows-sent v c (item ∷ items) two = omega (arith, windows-sent v c items two, total-append window_in c (sent v items) (due v item items), total_due window_in v c item items windows_plain, window_due v c item items two)
 
 -- what an item's frames acknowledge
-pub credits_due : (v : Version) (c : ChannelKey) (item : Item) (items : List Item) → credits c (due v item items) + handed v c items ≤ handed v c (item ∷ items)
-credits_due v c (Hello party) items = omega arith
-credits_due v c (DidOffer key name size) items = omega (arith, total_due_on credit_in v c key (frame_on key (Offer name (written_window v size)) ∷ []) (DidOffer key name size) items credits_plain, none_on (same_key key c) 0 refl)
-credits_due v c (DidAccept key size) items = omega (arith, total_due_on credit_in v c key (frame_on key (OfferAccepted (written_window v size)) ∷ []) (DidAccept key size) items credits_plain, none_on (same_key key c) 0 refl)
-credits_due v c (DidWrite key bytes) items = omega (arith, total_due_on credit_in v c key [] (DidWrite key bytes) items credits_plain)
-credits_due v c (DidRead key max) items = elim (key_cases key c) [
+
+read_due : (v : Version) (c key : ChannelKey) (max : ℕ) (items : List Item) → credits c (due v (DidRead key max) items) + handed v c items ≤ handed v c (DidRead key max ∷ items)
+read_due v c key max items = elim (key_cases key c) [
   | inl same ↦ subst (λ k. credits c (due v (DidRead k max) items) + handed v c items ≤ handed v c (DidRead k max ∷ items)) (sym same)
       (rw (same_key_refl c) (let n : min max (length (unread v c items)) ≡ min max (unread_count (is_dropped v c items) (length (taken v c items)) (handed v c items)) = ap (min max) (length-unread v c items) in
       omega (arith, n, at_most c (min max (length (unread v c items))) (is_one v) (min max (length (unread v c items)) == 0) (is_running items && is_live v c items))))
@@ -139,11 +135,12 @@ credits_due v c (DidRead key max) items = elim (key_cases key c) [
     off key count false true live e = refl
     off key count false false false e = refl
     off key count false false true e = rw e refl
-credits_due v c (DidComplete key) items = omega (arith, total_due_on credit_in v c key [] (DidComplete key) items credits_plain)
-credits_due v c (DidTerminate key) items = omega (arith, total_due_on credit_in v c key [] (DidTerminate key) items credits_plain)
-credits_due v c (Got place key body) items = omega (arith, total_due_on credit_in v c key [] (Got place key body) items credits_plain)
-credits_due v c (Rejected place key body) items = omega (arith, total_if credit_in c key ChannelTerminated true refl)
-credits_due v c (End cause) items = omega arith
+
+pub credits_due : (v : Version) (c : ChannelKey) (item : Item) (items : List Item) → credits c (due v item items) + handed v c items ≤ handed v c (item ∷ items)
+credits_due v c (DidRead key max) items = read_due v c key max items
+credits_due v c (DidOffer key name size) items = omega (arith, total_due credit_in v c (DidOffer key name size) items credits_plain, none_on (same_key key c) 0 refl)
+credits_due v c (DidAccept key size) items = omega (arith, total_due credit_in v c (DidAccept key size) items credits_plain, none_on (same_key key c) 0 refl)
+credits_due v c item items = omega (arith, total_due credit_in v c item items credits_plain)
 
 -- an end acknowledges no more than it handed over
 pub credits-sent-le : (v : Version) (c : ChannelKey) (items : List Item) → credits c (sent v items) ≤ handed v c items

@@ -7,10 +7,13 @@ use Rattle.mux_items.specs.declared.channel.ChannelKey.{ChannelKey}
 use Rattle.mux_items.specs.declared.party.Party.TheVariants.{Odd, Even}
 use Rattle.mux_items.specs.Bodies.{Offer, OfferAccepted, Content, ContentWritingCompleted, ChannelTerminated, ContentProcessed, frame_on}
 use Rattle.mux_items.specs.Items.{Item, Hello, DidOffer, DidAccept, DidWrite, DidRead, DidComplete, Got}
-use Rattle.mux_items.specs.Lists.{emitted, taken, handed, unread}
-use Rattle.mux_items.specs.Due.{due}
+use Rattle.mux_items.specs.Lists.{emitted, taken, handed, read_bytes, unread}
+use Rattle.mux_items.specs.Kept.{next_key}
+use Rattle.mux_items.specs.Due.{due, sent}
 use Rattle.mux_items.specs.Refusals.{frame_refusal}
 use Rattle.mux_items.specs.Applying.{Allowed}
+use Rattle.mux_items.specs.Sums.{windows, credits}
+use Rattle.mux_items.specs.Order.{is_on}
 
 -- the channel as the end that offered it names it, and as the other does
 abbrev here : ChannelKey
@@ -91,3 +94,23 @@ within_window = refl
 
 there_allowed : Allowed version.Two read_all
 there_allowed = (refl, (record { ready = refl; running = refl; unrefused = refl }, refl, (refl, (record { ready = refl; running = refl; unrefused = refl }, refl, (refl, (record { ready = refl; running = refl; unrefused = refl }, refl, (record { needed = refl; parity = refl; once = refl; running = refl }, tt)))))))
+
+-- what reads answered, and what the frames of either end tell
+reads_hello : read_bytes version.Two there read_all ≡ 104 ∷ 101 ∷ 108 ∷ 108 ∷ 111 ∷ []
+reads_hello = refl
+
+tells_window : windows there (sent version.Two read_all) ≡ 4
+tells_window = refl
+
+tells_credit : credits there (sent version.Two read_all) ≡ 5
+tells_credit = refl
+
+on_own_channel : is_on here (sent version.Two (wrote ∷ accepted)) ≡ true
+on_own_channel = refl
+
+on_no_other : is_on there (sent version.Two (wrote ∷ accepted)) ≡ false
+on_no_other = refl
+
+-- the second own channel of the odd side
+draws_third : next_key offered ≡ record { id = 3; own = true }
+draws_third = refl

@@ -1,11 +1,15 @@
 -- Worked values of runs in version 3.
-use Rattle.std.specs.Prelude.{ℕ, List, [], ◌∷◌, ◌++◌, length, drop, true, false}
+use Rattle.std.specs.Prelude.{ℕ, List, [], ◌∷◌, ◌++◌, length, drop, true, false, Some}
 use Rattle.std.proofs.Common.{◌≡◌, refl}
 use Rattle.wire_base.specs.declared.frame.Version.TheVariants as version
 use Rattle.wire_base.specs.declared.refusal.Refusal.TheVariants as refusal
 use Rattle.wire_base.specs.declared.state.Cause.TheVariants as cause
 use Rattle.mux_items.specs.declared.channel.ChannelKey.{ChannelKey}
 use Rattle.mux_items.specs.declared.channel.MuxEvent.TheVariants as happened
+use Rattle.mux_items.specs.Bodies.{Offer, Content, frame_on}
+use Rattle.mux_items.specs.Items.{Item, DidAccept, Got}
+use Rattle.mux_run.specs.Between.{ahead}
+use Rattle.mux_run.specs.Moments.{IsMoment}
 use Rattle.mux_run.specs.Run.{Terms, out, run}
 use Rattle.mux_run.specs.Answers.{answer}
 use Rattle.mux_run.specs.declared.steps.Side.TheVariants.{A, B}
@@ -96,6 +100,32 @@ first_is_split = refl
 
 second_is_whole : a_emits (step.Call A (call.Write second_at_a (0x7a ∷ 0x7a ∷ 0x7a ∷ []))) (two_accepted ++ write_first ∷ []) ≡ 0x94 ∷ 0x02 ∷ 0x02 ∷ 0x01 ∷ 0xc4 ∷ 0x03 ∷ 0x7a ∷ 0x7a ∷ 0x7a ∷ []
 second_is_whole = refl
+
+-- a delivery of both frames has a moment after the first
+
+abbrev both_sent : List Step
+both_sent = two_accepted ++ write_first ∷ step.Call A (call.Write second_at_a (0x7a ∷ [])) ∷ []
+
+abbrev older : List Item
+older = DidAccept second_at_b 3 ∷ DidAccept at_b 1 ∷ Got 10 second_at_b (Offer (97 ∷ []) (Some 8)) ∷ Got 0 at_b (Offer (97 ∷ []) (Some 8)) ∷ []
+
+abbrev after_first : List Item
+after_first = Got 20 at_b (Content (0x61 ∷ [])) ∷ older
+
+abbrev after_both : List Item
+after_both = Got 27 second_at_b (Content (0x7a ∷ [])) ∷ after_first
+
+before_delivery : (run terms both_sent).b.items ≡ older
+before_delivery = refl
+
+after_delivery : (run terms (both_sent ++ step.Deliver B 1000 ∷ [])).b.items ≡ after_both
+after_delivery = refl
+
+between_both : IsMoment older after_both after_first
+between_both = record { since = Got 20 at_b (Content (0x61 ∷ [])) ∷ []; later = Got 27 second_at_b (Content (0x7a ∷ [])) ∷ []; is = refl; more = refl }
+
+second_is_ahead : ahead version.Three after_first (run terms both_sent).a.items ≡ frame_on second_at_a (Content (0x7a ∷ [])) ∷ []
+second_is_ahead = refl
 
 -- A terminates while content of B is on its way
 

@@ -1,22 +1,18 @@
 -- What always holds of the channels that an end keeps.
-use Rattle.std.specs.Prelude.{ℕ, ◌+◌, ◌*◌, List, [], ◌∷◌, length, Bool, true, false, not, nat_lt, nat_le, if◌then◌else◌, Some, None}
+use Rattle.std.specs.Prelude.{ℕ, ◌*◌, List, [], ◌∷◌, Bool, true, false, if◌then◌else◌, Some, None}
 use Rattle.std.proofs.Common.{◌≡◌, ◌≤◌, refl, sym, ◌∙◌, ap, subst, arith}
-use Rattle.std.proofs.lemmas.Bool.{leb-false}
 use Rattle.wire_base.specs.declared.frame.Version.{Version}
-use Rattle.wire_base.specs.declared.refusal.Refusal.{Refusal}
-use Rattle.wire_base.specs.declared.refusal.Refusal.TheVariants as refusal
 use Rattle.mux_items.specs.declared.channel.ChannelKey.{ChannelKey}
 use Rattle.mux_items.specs.declared.channel.Tally.{Tally}
 use Rattle.mux_items.specs.declared.party.Party.{Party}
 use Rattle.mux_items.specs.declared.party.Party.TheVariants.{Odd, Even, Neither}
-use Rattle.mux_items.specs.Items.{Item, DidOffer, ended, party_of}
-use Rattle.mux_items.specs.Limits.{longest_name, most_channels, most_offers, most_windows}
-use Rattle.mux_items.specs.Kept.{is_known, is_kept, kept_keys, own_offers, own_windows, own_id}
-use Rattle.mux_items.specs.Refusals.{is_bad_window, is_ready}
+use Rattle.mux_items.specs.Items.{Item, DidOffer, party_of}
+use Rattle.mux_items.specs.Limits.{most_offers}
+use Rattle.mux_items.specs.Kept.{is_known, is_kept, own_offers, own_id}
 use Rattle.mux_items.specs.Applying.{Allowed}
 use Rattle.mux_items.proofs.Applied.{allowed_tail}
 use Rattle.mux_items.proofs.Offered.{own_bound}
-use Rattle.mux_items.proofs.Permits.{unless_none}
+use Rattle.mux_items.proofs.Permits.{offer_permits}
 use Rattle.mux_state.specs.State.{ChannelState, channel_at}
 use Rattle.mux_state.specs.Tests.{stays_kept, tally_in}
 use Rattle.mux_state.specs.Book.{Kept, Gone, AreApart, book_of, found, has_offer, own_count, known_in}
@@ -24,23 +20,9 @@ use Rattle.mux_state.proofs.Orders.{known_apart}
 use Rattle.mux_state.proofs.Refusing.{kept_by_state}
 use Rattle.mux_state.proofs.Books.{found_is, has_offer_is, known_by_book, own_count_is}
 
-last_fails : (a b x d y last : Bool) (p q r s t u : Refusal) → (if a then Some p else if b then Some q else if x then Some r else if d then Some s else if y then Some t else if last then Some u else None) ≡ None → last ≡ false
-last_fails true b x d y last p q r s t u e = absurd (cc)
-last_fails false true x d y last p q r s t u e = absurd (cc)
-last_fails false false true d y last p q r s t u e = absurd (cc)
-last_fails false false false true y last p q r s t u e = absurd (cc)
-last_fails false false false false true last p q r s t u e = absurd (cc)
-last_fails false false false false false true p q r s t u e = absurd (cc)
-last_fails false false false false false false p q r s t u e = refl
-
 offers_within : (v : Version) (items : List Item) → Allowed v items → own_offers items ≤ most_offers
 offers_within v [] ok = omega arith
-offers_within v (DidOffer key name size ∷ items) ok =
-    omega (
-      arith,
-      leb-false most_offers (own_offers items) (last_fails (not (is_ready v items)) (nat_lt longest_name (length name)) (is_bad_window size) (nat_le most_channels (length (kept_keys v items))) (nat_lt most_windows (own_windows v items + size)) (nat_le most_offers (own_offers items))
-          refusal.NotReady refusal.NameTooLong refusal.BadWindow refusal.TooManyChannels refusal.WindowsSpent refusal.TooManyOffers (unless_none (ended items) _ ok.0).1),
-    )
+offers_within v (DidOffer key name size ∷ items) ok = (offer_permits v name size items ok.0).more
 offers_within v (item ∷ items) ok = omega (arith, offers_within v items (allowed_tail v item items ok))
 
 id_within : (party : Party) (n : ℕ) → own_id party n ≤ 2 * n
