@@ -141,18 +141,85 @@ fn stands(channel: &Channel) -> Stands {
     (view.phase, view.unread, view.pending, view.emitted)
 }
 
-/// What happens, its answer, the frames that are sent then, their content, and where the channel stands.
-type Row<'a> = (Happens<'a>, Answer, &'a [Due], &'a [u8], Stands);
+/// What happens, its answer, the frames that are sent then, their content, and where the channel stands, unless nothing changes.
+#[derive(Clone, Copy)]
+struct Row<'a> {
+    happens: Happens<'a>,
+    answer: Answer,
+    frames: &'a [Due],
+    content: &'a [u8],
+    stands: Option<Stands>,
+}
+
+fn sends<'a>(
+    happens: Happens<'a>,
+    frames: &'a [Due],
+    content: &'a [u8],
+    stands: Stands,
+) -> Row<'a> {
+    Row {
+        happens,
+        answer: Done,
+        frames,
+        content,
+        stands: Some(stands),
+    }
+}
+
+fn done(happens: Happens, stands: Stands) -> Row {
+    sends(happens, &[], b"", stands)
+}
+
+fn moves(max: usize, count: usize, stands: Stands) -> Row<'static> {
+    Row {
+        happens: Read(max),
+        answer: Moved(count),
+        frames: &[],
+        content: b"",
+        stands: Some(stands),
+    }
+}
+
+fn unchanged(happens: Happens, answer: Answer) -> Row {
+    Row {
+        happens,
+        answer,
+        frames: &[],
+        content: b"",
+        stands: None,
+    }
+}
+
+fn refused(happens: Happens, refusal: Refusal) -> Row {
+    unchanged(happens, Refused(refusal))
+}
+
+fn broken(happens: Happens, reason: Reason) -> Row {
+    unchanged(happens, Broken(reason))
+}
+
+fn ignored(happens: Happens) -> Row {
+    unchanged(happens, Done)
+}
 
 fn lives(rt: &impl Abort, alloc: Global, mut channel: Channel, rows: &[Row]) -> Result<(), Fail> {
     for (number, row) in rows.iter().enumerate() {
-        let (happens, wants, frames, bytes, at) = *row;
-        let mut payload = Vec::new(alloc);
-        assert_eq!(rt; happen(&mut channel, alloc, happens), wants, "row {number}");
-        let sent = settle(&mut channel, alloc, &mut payload)?;
-        assert_eq!(rt; sent.as_slice(), frames, "row {number}");
-        assert_eq!(rt; payload.as_slice(), bytes, "row {number}");
-        assert_eq!(rt; stands(&channel), at, "row {number}");
+        let row = *row;
+        let before = stands(&channel);
+        let mut content = Vec::new(alloc);
+        assert_eq!(rt;
+            happen(&mut channel, alloc, row.happens),
+            row.answer,
+            "row {number}"
+        );
+        let frames = settle(&mut channel, alloc, &mut content)?;
+        assert_eq!(rt; frames.as_slice(), row.frames, "row {number}");
+        assert_eq!(rt; content.as_slice(), row.content, "row {number}");
+        assert_eq!(rt;
+            stands(&channel),
+            row.stands.unwrap_or(before),
+            "row {number}"
+        );
     }
     Ok(())
 }
@@ -169,92 +236,41 @@ fn heard(alloc: Global, version: Version) -> Channel {
 
 #[test]
 fn an_own_offer_lives_by_credit(rt: HostRuntime) -> Result<(), Fail> {
-    let rows: [Row; 19] = [
-        (Write(b"hello"), Done, &[], b"", (Phase::Waiting, 0, 5, 0)),
-        (
-            Content(b"a"),
-            Broken(Reason::NotAccepted),
-            &[],
-            b"",
-            (Phase::Waiting, 0, 5, 0),
-        ),
-        (
-            Completed,
-            Broken(Reason::NotAccepted),
-            &[],
-            b"",
-            (Phase::Waiting, 0, 5, 0),
-        ),
-        (
-            Processed(1),
-            Broken(Reason::OverAcknowledged),
-            &[],
-            b"",
-            (Phase::Waiting, 0, 5, 0),
-        ),
-        (
+    let rows = [
+        done(Write(b"hello"), (Phase::Waiting, 0, 5, 0)),
+        broken(Content(b"a"), Reason::NotAccepted),
+        broken(Completed, Reason::NotAccepted),
+        broken(Processed(1), Reason::OverAcknowledged),
+        sends(
             Accepted(4),
-            Done,
             &[Due::Content(4)],
             b"hell",
             (Phase::Live, 0, 1, 4),
         ),
-        (
-            Accepted(4),
-            Broken(Reason::AlreadyAccepted),
-            &[],
-            b"",
-            (Phase::Live, 0, 1, 4),
-        ),
-        (Complete, Done, &[], b"", (Phase::Live, 0, 1, 4)),
-        (
-            Write(b"x"),
-            Refused(Refusal::WritingDone),
-            &[],
-            b"",
-            (Phase::Live, 0, 1, 4),
-        ),
-        (
-            Complete,
-            Refused(Refusal::WritingDone),
-            &[],
-            b"",
-            (Phase::Live, 0, 1, 4),
-        ),
-        (
-            Processed(5),
-            Broken(Reason::OverAcknowledged),
-            &[],
-            b"",
-            (Phase::Live, 0, 1, 4),
-        ),
-        (
+        broken(Accepted(4), Reason::AlreadyAccepted),
+        ignored(Complete),
+        refused(Write(b"x"), Refusal::WritingDone),
+        refused(Complete, Refusal::WritingDone),
+        broken(Processed(5), Reason::OverAcknowledged),
+        sends(
             Processed(3),
-            Done,
             &[Due::Content(1), Due::Completed],
             b"o",
             (Phase::Live, 0, 0, 5),
         ),
-        (Content(b"abc"), Done, &[], b"", (Phase::Live, 3, 0, 5)),
-        (
-            Content(b"defghi"),
-            Broken(Reason::WindowExceeded),
-            &[],
-            b"",
-            (Phase::Live, 3, 0, 5),
-        ),
-        (Content(b"defgh"), Done, &[], b"", (Phase::Live, 8, 0, 5)),
-        (Read(2), Moved(2), &[], b"", (Phase::Live, 6, 0, 5)),
-        (
+        done(Content(b"abc"), (Phase::Live, 3, 0, 5)),
+        broken(Content(b"defghi"), Reason::WindowExceeded),
+        done(Content(b"defgh"), (Phase::Live, 8, 0, 5)),
+        moves(2, 2, (Phase::Live, 6, 0, 5)),
+        sends(
             Completed,
-            Done,
             &[Due::Terminated],
             b"",
             (Phase::Closing, 6, 0, 5),
         ),
-        (Content(b"z"), Done, &[], b"", (Phase::Closing, 6, 0, 5)),
-        (Terminated, Done, &[], b"", (Phase::Closed, 6, 0, 5)),
-        (Read(9), Moved(6), &[], b"", (Phase::Closed, 0, 0, 5)),
+        ignored(Content(b"z")),
+        done(Terminated, (Phase::Closed, 6, 0, 5)),
+        moves(9, 6, (Phase::Closed, 0, 0, 5)),
     ];
     for version in [Version::Two, Version::Three] {
         lives(&rt, rt.alloc(), offered(rt.alloc(), version), &rows)?;
@@ -264,90 +280,28 @@ fn an_own_offer_lives_by_credit(rt: HostRuntime) -> Result<(), Fail> {
 
 #[test]
 fn a_peers_offer_waits_for_acceptance(rt: HostRuntime) -> Result<(), Fail> {
-    let rows: [Row; 15] = [
-        (
-            Write(b"a"),
-            Refused(Refusal::NotAccepted),
-            &[],
-            b"",
-            (Phase::Heard, 0, 0, 0),
-        ),
-        (
-            Read(1),
-            Refused(Refusal::NotAccepted),
-            &[],
-            b"",
-            (Phase::Heard, 0, 0, 0),
-        ),
-        (
-            Complete,
-            Refused(Refusal::NotAccepted),
-            &[],
-            b"",
-            (Phase::Heard, 0, 0, 0),
-        ),
-        (
-            Content(b"a"),
-            Broken(Reason::NotAccepted),
-            &[],
-            b"",
-            (Phase::Heard, 0, 0, 0),
-        ),
-        (
-            Completed,
-            Broken(Reason::NotAccepted),
-            &[],
-            b"",
-            (Phase::Heard, 0, 0, 0),
-        ),
-        (
-            Accepted(4),
-            Broken(Reason::WrongSide),
-            &[],
-            b"",
-            (Phase::Heard, 0, 0, 0),
-        ),
-        (Accept(2), Done, &[], b"", (Phase::Live, 0, 0, 0)),
-        (
-            Accept(2),
-            Refused(Refusal::AlreadyAccepted),
-            &[],
-            b"",
-            (Phase::Live, 0, 0, 0),
-        ),
-        (
+    let rows = [
+        refused(Write(b"a"), Refusal::NotAccepted),
+        refused(Read(1), Refusal::NotAccepted),
+        refused(Complete, Refusal::NotAccepted),
+        broken(Content(b"a"), Reason::NotAccepted),
+        broken(Completed, Reason::NotAccepted),
+        broken(Accepted(4), Reason::WrongSide),
+        done(Accept(2), (Phase::Live, 0, 0, 0)),
+        refused(Accept(2), Refusal::AlreadyAccepted),
+        sends(
             Write(b"hello"),
-            Done,
             &[Due::Content(4)],
             b"hell",
             (Phase::Live, 0, 1, 4),
         ),
-        (
-            Content(b"abc"),
-            Broken(Reason::WindowExceeded),
-            &[],
-            b"",
-            (Phase::Live, 0, 1, 4),
-        ),
-        (Completed, Done, &[], b"", (Phase::Live, 0, 1, 4)),
-        (
-            Completed,
-            Broken(Reason::ContentAfterCompletion),
-            &[],
-            b"",
-            (Phase::Live, 0, 1, 4),
-        ),
-        (
-            Content(b""),
-            Broken(Reason::ContentAfterCompletion),
-            &[],
-            b"",
-            (Phase::Live, 0, 1, 4),
-        ),
-        (Complete, Done, &[], b"", (Phase::Live, 0, 1, 4)),
-        (
+        broken(Content(b"abc"), Reason::WindowExceeded),
+        ignored(Completed),
+        broken(Completed, Reason::ContentAfterCompletion),
+        broken(Content(b""), Reason::ContentAfterCompletion),
+        ignored(Complete),
+        sends(
             Processed(1),
-            Done,
             &[Due::Content(1), Due::Completed, Due::Terminated],
             b"o",
             (Phase::Closing, 0, 0, 5),
@@ -358,199 +312,141 @@ fn a_peers_offer_waits_for_acceptance(rt: HostRuntime) -> Result<(), Fail> {
 
 #[test]
 fn version_1_has_no_windows(rt: HostRuntime) -> Result<(), Fail> {
-    let rows: [Row; 7] = [
-        (Content(b"before"), Done, &[], b"", (Phase::Heard, 6, 0, 0)),
-        (
-            Read(1),
-            Refused(Refusal::NotAccepted),
-            &[],
-            b"",
-            (Phase::Heard, 6, 0, 0),
-        ),
-        (Completed, Done, &[], b"", (Phase::Heard, 6, 0, 0)),
-        (Accept(1), Done, &[], b"", (Phase::Live, 6, 0, 0)),
-        (
+    let rows = [
+        done(Content(b"before"), (Phase::Heard, 6, 0, 0)),
+        refused(Read(1), Refusal::NotAccepted),
+        ignored(Completed),
+        done(Accept(1), (Phase::Live, 6, 0, 0)),
+        sends(
             Write(b"hello"),
-            Done,
             &[Due::Content(5)],
             b"hello",
             (Phase::Live, 6, 0, 5),
         ),
-        (Read(9), Moved(6), &[], b"", (Phase::Live, 0, 0, 5)),
-        (
+        moves(9, 6, (Phase::Live, 0, 0, 5)),
+        sends(
             Complete,
-            Done,
             &[Due::Completed, Due::Terminated],
             b"",
             (Phase::Closing, 0, 0, 5),
         ),
     ];
     lives(&rt, rt.alloc(), heard(rt.alloc(), Version::One), &rows)?;
-    let early: [Row; 2] = [
-        (Content(b"before"), Done, &[], b"", (Phase::Heard, 6, 0, 0)),
-        (
+    let unaccepted = [
+        done(Content(b"before"), (Phase::Heard, 6, 0, 0)),
+        sends(
             Terminated,
-            Done,
             &[Due::Terminated],
             b"",
             (Phase::Closed, 0, 0, 0),
         ),
     ];
-    lives(&rt, rt.alloc(), heard(rt.alloc(), Version::One), &early)?;
-    let own: [Row; 3] = [
-        (
-            Content(b"a"),
-            Broken(Reason::NotAccepted),
-            &[],
-            b"",
-            (Phase::Waiting, 0, 0, 0),
-        ),
-        (Accepted(1), Done, &[], b"", (Phase::Live, 0, 0, 0)),
-        (
-            Content(b"above the window"),
-            Done,
-            &[],
-            b"",
-            (Phase::Live, 16, 0, 0),
-        ),
+    lives(
+        &rt,
+        rt.alloc(),
+        heard(rt.alloc(), Version::One),
+        &unaccepted,
+    )?;
+    let own = [
+        broken(Content(b"a"), Reason::NotAccepted),
+        done(Accepted(1), (Phase::Live, 0, 0, 0)),
+        done(Content(b"above the window"), (Phase::Live, 16, 0, 0)),
     ];
     lives(&rt, rt.alloc(), offered(rt.alloc(), Version::One), &own)
 }
 
 #[test]
 fn either_side_terminates(rt: HostRuntime) -> Result<(), Fail> {
-    let here: [Row; 9] = [
-        (Accepted(2), Done, &[], b"", (Phase::Live, 0, 0, 0)),
-        (
+    let here = [
+        done(Accepted(2), (Phase::Live, 0, 0, 0)),
+        sends(
             Write(b"abc"),
-            Done,
             &[Due::Content(2)],
             b"ab",
             (Phase::Live, 0, 1, 2),
         ),
-        (Content(b"xyz"), Done, &[], b"", (Phase::Live, 3, 1, 2)),
-        (Terminate, Done, &[], b"", (Phase::Closing, 0, 0, 2)),
-        (
-            Write(b"d"),
-            Refused(Refusal::NotOpen),
-            &[],
-            b"",
-            (Phase::Closing, 0, 0, 2),
-        ),
-        (
-            Complete,
-            Refused(Refusal::NotOpen),
-            &[],
-            b"",
-            (Phase::Closing, 0, 0, 2),
-        ),
-        (
-            Terminate,
-            Refused(Refusal::NotOpen),
-            &[],
-            b"",
-            (Phase::Closing, 0, 0, 2),
-        ),
-        (Processed(9), Done, &[], b"", (Phase::Closing, 0, 0, 2)),
-        (Terminated, Done, &[], b"", (Phase::Closed, 0, 0, 2)),
+        done(Content(b"xyz"), (Phase::Live, 3, 1, 2)),
+        done(Terminate, (Phase::Closing, 0, 0, 2)),
+        refused(Write(b"d"), Refusal::NotOpen),
+        refused(Complete, Refusal::NotOpen),
+        refused(Terminate, Refusal::NotOpen),
+        ignored(Processed(9)),
+        done(Terminated, (Phase::Closed, 0, 0, 2)),
     ];
     lives(&rt, rt.alloc(), offered(rt.alloc(), Version::Three), &here)?;
-    let peer: [Row; 7] = [
-        (Accepted(2), Done, &[], b"", (Phase::Live, 0, 0, 0)),
-        (
+    let peer = [
+        done(Accepted(2), (Phase::Live, 0, 0, 0)),
+        sends(
             Write(b"abc"),
-            Done,
             &[Due::Content(2)],
             b"ab",
             (Phase::Live, 0, 1, 2),
         ),
-        (Content(b"xyz"), Done, &[], b"", (Phase::Live, 3, 1, 2)),
-        (
+        done(Content(b"xyz"), (Phase::Live, 3, 1, 2)),
+        sends(
             Terminated,
-            Done,
             &[Due::Terminated],
             b"",
             (Phase::Closed, 3, 0, 2),
         ),
-        (
-            Terminate,
-            Refused(Refusal::NotOpen),
-            &[],
-            b"",
-            (Phase::Closed, 3, 0, 2),
-        ),
-        (Read(2), Moved(2), &[], b"", (Phase::Closed, 1, 0, 2)),
-        (Read(2), Moved(1), &[], b"", (Phase::Closed, 0, 0, 2)),
+        refused(Terminate, Refusal::NotOpen),
+        moves(2, 2, (Phase::Closed, 1, 0, 2)),
+        moves(2, 1, (Phase::Closed, 0, 0, 2)),
     ];
-    lives(&rt, rt.alloc(), offered(rt.alloc(), Version::Three), &peer)?;
-    let waiting: [Row; 3] = [
-        (Write(b"abc"), Done, &[], b"", (Phase::Waiting, 0, 3, 0)),
-        (
+    lives(&rt, rt.alloc(), offered(rt.alloc(), Version::Three), &peer)
+}
+
+#[test]
+fn an_offer_is_terminated(rt: HostRuntime) -> Result<(), Fail> {
+    let by_peer = [
+        done(Write(b"abc"), (Phase::Waiting, 0, 3, 0)),
+        sends(
             Terminated,
-            Done,
             &[Due::Terminated],
             b"",
             (Phase::Closed, 0, 0, 0),
         ),
-        (Accepted(2), Done, &[], b"", (Phase::Closed, 0, 0, 0)),
+        ignored(Accepted(2)),
     ];
     lives(
         &rt,
         rt.alloc(),
         offered(rt.alloc(), Version::Three),
-        &waiting,
+        &by_peer,
     )?;
-    let refused: [Row; 2] = [
-        (Terminate, Done, &[], b"", (Phase::Closing, 0, 0, 0)),
-        (
-            Accept(2),
-            Refused(Refusal::NotOpen),
-            &[],
-            b"",
-            (Phase::Closing, 0, 0, 0),
-        ),
+    let here = [
+        done(Terminate, (Phase::Closing, 0, 0, 0)),
+        refused(Accept(2), Refusal::NotOpen),
     ];
-    lives(&rt, rt.alloc(), heard(rt.alloc(), Version::Three), &refused)
+    lives(&rt, rt.alloc(), heard(rt.alloc(), Version::Three), &here)
 }
 
 #[test]
 fn the_end_drops_what_is_pending(rt: HostRuntime) -> Result<(), Fail> {
-    let rows: [Row; 5] = [
-        (Accepted(2), Done, &[], b"", (Phase::Live, 0, 0, 0)),
-        (
+    let rows = [
+        done(Accepted(2), (Phase::Live, 0, 0, 0)),
+        sends(
             Write(b"abc"),
-            Done,
             &[Due::Content(2)],
             b"ab",
             (Phase::Live, 0, 1, 2),
         ),
-        (Content(b"xyz"), Done, &[], b"", (Phase::Live, 3, 1, 2)),
-        (End, Done, &[], b"", (Phase::Live, 3, 0, 2)),
-        (Read(9), Moved(3), &[], b"", (Phase::Live, 0, 0, 2)),
+        done(Content(b"xyz"), (Phase::Live, 3, 1, 2)),
+        done(End, (Phase::Live, 3, 0, 2)),
+        moves(9, 3, (Phase::Live, 0, 0, 2)),
     ];
     lives(&rt, rt.alloc(), offered(rt.alloc(), Version::Two), &rows)
 }
 
 #[test]
 fn content_goes_in_pieces(rt: HostRuntime) -> Result<(), Fail> {
-    let alloc = rt.alloc();
-    let mut channel = heard(alloc, Version::One);
-    assert_eq!(rt; accept(&mut channel, 1), Done);
-    let bytes = vec![in alloc; 7u8; 50_000]?;
-    assert_eq!(rt; write(&mut channel, bytes.as_slice()), Done);
-    let mut payload = Vec::new(alloc);
-    let sent = settle(&mut channel, alloc, &mut payload)?;
-    assert_eq!(rt;
-        sent.as_slice(),
-        [
-            Due::Content(20_480),
-            Due::Content(20_480),
-            Due::Content(9_040)
-        ]
-        .as_slice()
-    );
-    assert_eq!(rt; payload.as_slice(), bytes.as_slice());
-    Ok(())
+    let bytes = vec![in rt.alloc(); 7u8; 50_000]?;
+    let pieces = [20_480, 20_480, 9_040].map(Due::Content);
+    let rows = [
+        done(Accept(1), (Phase::Live, 0, 0, 0)),
+        sends(Write(&bytes), &pieces, &bytes, (Phase::Live, 0, 0, 50_000)),
+    ];
+    lives(&rt, rt.alloc(), heard(rt.alloc(), Version::One), &rows)
 }
 
 /// Why an acceptance is refused.
