@@ -1,6 +1,6 @@
 //! Why a call or a frame of a channel is refused.
 
-ghost use Rattle.std.specs.Prelude.{◌≡◌, ◌≤◌, ℕ, List, length, true, false, None};
+ghost use Rattle.std.specs.Prelude.{◌≡◌, ◌||◌, not, ℕ, List, length, true, false, None};
 ghost use Rattle.mux_items.specs.Bodies.{Content};
 ghost use Rattle.mux_items.specs.Limits.{most_bytes, most_windows};
 ghost use Rattle.mux_items.specs.Refusals.{is_bad_window};
@@ -25,14 +25,21 @@ impl Channel {
         !self.own && !self.accepted
     }
 
+    /// Whether neither side has terminated the channel.
+    fn is_open(&self) -> bool
+        ensures { result ≡ not (self.now.termination_sent || self.now.peer_terminated) }
+    {
+        !(self.termination_sent || self.peer_terminated)
+    }
+
     /// Why terminating is refused, if it is.
     pub fn terminate_refusal(&self) -> Option<Refusal>
         ensures { result ≡ open_test self.now }
     {
-        if self.termination_sent || self.peer_terminated {
-            Some(Refusal::NotOpen)
-        } else {
+        if self.is_open() {
             None
+        } else {
+            Some(Refusal::NotOpen)
         }
     }
 
@@ -40,7 +47,7 @@ impl Channel {
     pub fn complete_refusal(&self) -> Option<Refusal>
         ensures { result ≡ writing_test self.now }
     {
-        if self.termination_sent || self.peer_terminated {
+        if !self.is_open() {
             Some(Refusal::NotOpen)
         } else if self.waits_here() {
             Some(Refusal::NotAccepted)
@@ -55,12 +62,10 @@ impl Channel {
     pub fn write_refusal(&self, bytes: &[u8]) -> Option<Refusal>
         ensures { result ≡ write_test bytes.now self.now }
     {
+        let room = MOST_BYTES - self.outgoing.written;
         match self.complete_refusal() {
-            Some(refusal) => Some(refusal),
-            None if MOST_BYTES - self.outgoing.written < bytes.len() as u64 => Some(
-                Refusal::BytesSpent,
-            ),
-            None => None,
+            None if room < bytes.len() as u64 => Some(Refusal::BytesSpent),
+            refusal => refusal,
         }
     }
 
@@ -79,7 +84,7 @@ impl Channel {
     pub(crate) fn acceptance_refusal(&self) -> Option<Refusal>
         ensures { result ≡ accepting_test self.now }
     {
-        if self.termination_sent || self.peer_terminated {
+        if !self.is_open() {
             Some(Refusal::NotOpen)
         } else if self.accepted {
             Some(Refusal::AlreadyAccepted)

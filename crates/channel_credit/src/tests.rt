@@ -299,6 +299,7 @@ fn a_peers_offer_waits_for_acceptance(rt: HostRuntime) -> Result<(), Fail> {
         ignored(Completed),
         broken(Completed, Reason::ContentAfterCompletion),
         broken(Content(b""), Reason::ContentAfterCompletion),
+        broken(Content(b"above the window"), Reason::ContentAfterCompletion),
         ignored(Complete),
         sends(
             Processed(1),
@@ -417,8 +418,23 @@ fn an_offer_is_terminated(rt: HostRuntime) -> Result<(), Fail> {
     let here = [
         done(Terminate, (Phase::Closing, 0, 0, 0)),
         refused(Accept(2), Refusal::NotOpen),
+        refused(Write(b"a"), Refusal::NotOpen),
+        refused(Complete, Refusal::NotOpen),
+        refused(Read(1), Refusal::NotAccepted),
     ];
-    lives(&rt, rt.alloc(), heard(rt.alloc(), Version::Three), &here)
+    lives(&rt, rt.alloc(), heard(rt.alloc(), Version::Three), &here)?;
+    let accepted = [
+        done(Accept(2), (Phase::Live, 0, 0, 0)),
+        done(Terminate, (Phase::Closing, 0, 0, 0)),
+        refused(Accept(2), Refusal::NotOpen),
+        moves(1, 0, (Phase::Closing, 0, 0, 0)),
+    ];
+    lives(
+        &rt,
+        rt.alloc(),
+        heard(rt.alloc(), Version::Three),
+        &accepted,
+    )
 }
 
 #[test]
