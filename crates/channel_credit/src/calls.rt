@@ -78,7 +78,7 @@ impl Channel {
         Ok(())
     }
 
-    /// The end of the channel has ended, and nothing more is written. Unread bytes stay readable.
+    /// The end that has the channel has ended: what is pending is dropped, and no frame is sent any more. Unread bytes stay readable.
     pub fn on_end(&mut self)
         ensures { self.new ≡ ended_state self.old }
     {
