@@ -1,10 +1,10 @@
 pub mod Sides
-pub mod Sayings
+pub mod Frames
 pub mod Fronts
 pub mod Settling
 pub mod Greetings
-pub mod Going
+pub mod Arriving
 pub mod Calls
-pub mod Feeding
+pub mod Delivering
 pub mod Answering
 pub mod Worlds

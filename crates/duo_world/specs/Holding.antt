@@ -1,4 +1,4 @@
--- When two ends stand for the two halves of a run.
+-- When two ends stand for the two sides of a run.
 use Rattle.std.specs.Prelude.{◌≡◌, ◌≤◌, ℕ, List, ◌++◌, length, take, drop, Bool, false, if◌then◌else◌}
 use Rattle.mux_items.specs.Due.{got}
 use Rattle.mux_items.specs.Refusals.{is_ready}
@@ -6,9 +6,8 @@ use Rattle.mux_end.specs.Stands.{EndValue, MuxStands}
 use Rattle.mux_run.specs.declared.steps.Step.{Step}
 use Rattle.mux_run.specs.declared.steps.Side.{Side}
 use Rattle.mux_run.specs.declared.steps.Side.TheVariants.{A, B}
-use Rattle.mux_run.specs.Run.{RunSide, World, Terms, SideTerms, terms_at_a, terms_at_b, out, place_after, in_flight, run}
-use Rattle.mux_run.specs.Built.{AreBuilt}
-use Rattle.duo_world.specs.Sayable.{AreSayable}
+use Rattle.mux_run.specs.Run.{RunSide, World, Terms, SideTerms, terms_at_a, terms_at_b, turned, out, place_after, in_flight, run}
+use Rattle.duo_world.specs.Ranges.{AreInRange}
 
 -- the place of the first byte from y that x hasn't applied
 abbrev pub place_of : SideTerms → RunSide → RunSide → ℕ
@@ -18,17 +17,22 @@ place_of w x y = if is_ready w.version x.items then place_after w (length (got x
 abbrev pub rest_of : SideTerms → RunSide → RunSide → List ℕ
 rest_of w x y = drop (place_of w x y) (take x.delivered (out w.version w.peer y.items))
 
--- the end is as the half x leaves it, and its output is what was emitted and isn't delivered to y yet
-pub record HalfStands (w : SideTerms) (end : EndValue) (x y : RunSide) : Type 0 where
+-- the end is as the side x leaves it, and its output is what was emitted and isn't delivered to y yet
+pub record StandsForSide (w : SideTerms) (end : EndValue) (x y : RunSide) : Type 0 where
   pub stands : MuxStands end x.items (place_of w x y) (rest_of w x y)
+  pub in_range : AreInRange w x.items
   pub output : take y.delivered (out w.version w.own x.items) ++ end.output ≡ out w.version w.own x.items
   pub bound : y.delivered ≤ length (out w.version w.own x.items)
   pub version : end.version ≡ w.version
   pub nonce : end.nonce ≡ w.own
 
-pub record WorldStands (terms : Terms) (a b : EndValue) (w : World) : Type 0 where
-  pub at_a : HalfStands (terms_at_a terms) a w.a w.b
-  pub at_b : HalfStands (terms_at_b terms) b w.b w.a
+-- two ends are as the sides x and y leave them
+pub record StandForSides (w : SideTerms) (own peer : EndValue) (x y : RunSide) : Type 0 where
+  pub at_own : StandsForSide w own x y
+  pub at_peer : StandsForSide (turned w) peer y x
+
+abbrev pub StandForWorld : Terms → (a b : EndValue) → World → Type 0
+StandForWorld terms a b w = StandForSides (terms_at_a terms) a b w.a w.b
 
 -- the value of a Duo: its terms, its two ends, the steps that were made, and whether memory ran out in one
 pub record DuoState : Type 0 where
@@ -40,24 +44,21 @@ pub record DuoState : Type 0 where
 
 -- both ends stand for the run of the steps
 abbrev pub StandsForRun : DuoState → Type 0
-StandsForRun d = WorldStands d.terms d.a d.b (run d.terms d.steps)
+StandsForRun d = StandForWorld d.terms d.a d.b (run d.terms d.steps)
 
 -- a nonce is of 16 bytes
 pub record HaveNonces (w : SideTerms) : Type 0 where
   pub own : length w.own ≡ 16
   pub peer : length w.peer ≡ 16
 
--- a Duo that didn't fail: its steps are built, its ends stand for their run, and frames can say the items of both
-pub record IsHeld (d : DuoState) : Type 0 where
+-- a Duo in which memory never ran out
+pub record IsWorking (d : DuoState) : Type 0 where
   pub nonces : HaveNonces (terms_at_a d.terms)
-  pub built : AreBuilt d.steps
   pub stands : StandsForRun d
-  pub sayable_a : AreSayable (terms_at_a d.terms) (run d.terms d.steps).a.items
-  pub sayable_b : AreSayable (terms_at_b d.terms) (run d.terms d.steps).b.items
 
 -- of a Duo whose memory ran out in a step nothing is promised
 abbrev pub DuoHolds : DuoState → Type 0
-DuoHolds d = d.failed ≡ false → IsHeld d
+DuoHolds d = d.failed ≡ false → IsWorking d
 
 abbrev pub end_of : Side → DuoState → EndValue
 end_of A d = d.a

@@ -1,4 +1,4 @@
-pub mod Sayable
+pub mod Ranges
 pub mod Holding
 pub mod Settling
 pub mod Stepping

@@ -2,12 +2,11 @@
 
 ghost use Rattle.duo_world.specs.Holding.{DuoHolds, StandsForRun, end_of, flight_to, output_to};
 ghost use Rattle.duo_world.specs.Stepping.{IsStepped, Steps};
-ghost use Rattle.mux_run.specs.Built.{AreBuilt};
 ghost use Rattle.mux_run.specs.Run.{run, terms_of};
 ghost use Rattle.mux_run.specs.Safe.{IsSafeRun};
-ghost use Rattle.std.specs.Prelude.{◌≡◌, [], ◌∷◌, ◌++◌, IfOk, OnErr, false, true};
+ghost use Rattle.std.specs.Prelude.{◌≡◌, [], IfOk, OnErr, false, true};
 
-use crate::ends::answer;
+use crate::ends::make_step;
 use mux_end::MuxEnd;
 use mux_run::{DuoAnswer, Side, Step, StepList};
 use std::alloc::Global;
@@ -42,6 +41,7 @@ impl Duo {
     pub fn start(alloc: Global, version: Version, nonces: [[u8; 16]; 2]) -> Result<Duo, OutOfMemory>
         ensures fresh { IfOk result (λ d. (d.steps ≡ []) × (d.failed ≡ false) × (d.terms ≡ terms_of version nonces)) }
         ensures stands { IfOk result StandsForRun }
+        ensures safe { IfOk result (λ d. IsSafeRun d.terms d.steps) }
     {
         let [nonce_a, nonce_b] = nonces;
         let a = MuxEnd::start(alloc, version, nonce_a)?;
@@ -59,24 +59,21 @@ impl Duo {
     }
 
     fn try_step(&mut self, step: Step) -> Result<DuoAnswer, OutOfMemory>
-        requires works { self.old.failed ≡ false }
-        requires built { AreBuilt (self.old.steps ++ step ∷ []) }
+        requires { self.old.failed ≡ false }
         ensures ok { IfOk result (IsStepped self.old self.new step) }
         ensures err { OnErr result (self.new.failed ≡ true) }
     {
         self.failed = true;
-        let reply = answer(self.alloc, &mut self.a, &mut self.b, &step)?;
+        let reply = make_step(self.alloc, &mut self.a, &mut self.b, &step)?;
         self.steps.push(step)?;
         self.failed = false;
         Ok(reply)
     }
 
-    /// Makes a step: a call, or a delivery of at most so many of the bytes in flight to a side. After it that side
-    /// applies what is whole.
+    /// Makes a step: a call, a delivery of at most so many of the bytes in flight to a side, or the end of the stream
+    /// into a side. After a call or a delivery that side applies what is whole.
     pub fn step(&mut self, step: Step) -> DuoAnswer
-        requires { AreBuilt (self.old.steps ++ step ∷ []) }
-        ensures made { self.old.failed ≡ false → Steps self.old self.new step result }
-        ensures failed { self.old.failed ≡ true → (result ≡ DuoAnswer.OutOfMemory) × (self.new ≡ self.old) }
+        ensures { self.old.failed ≡ false → Steps self.old self.new step result }
     {
         if self.failed {
             return DuoAnswer::OutOfMemory;
@@ -94,7 +91,6 @@ impl Duo {
         nonces: [[u8; 16]; 2],
         steps: StepList,
     ) -> Result<Duo, OutOfMemory>
-        requires built { AreBuilt steps }
         ensures stored { IfOk result (λ d. (d.steps ≡ steps) × (d.failed ≡ false) × (d.terms ≡ terms_of version nonces)) }
         ensures stands { IfOk result StandsForRun }
         ensures safe { IfOk result (λ d. IsSafeRun d.terms d.steps) }

@@ -1,15 +1,13 @@
 //! What a step does to the two ends.
 
-ghost use Rattle.duo_world.specs.Settling.{IsOnWay, IsSettled, half};
-ghost use Rattle.duo_world.specs.Stepping.{Answered, CallAnswersAt, Calls, Delivers, IsCallable, IsReadyAt, IsReadyFor, StepAnswersAt, WorldAnswers};
+ghost use Rattle.duo_world.specs.Settling.{IsMidStep, IsSettled, is_running_state};
+ghost use Rattle.duo_world.specs.Holding.{StandsForSide};
+ghost use Rattle.duo_world.specs.Stepping.{Calls, CallsOrFails, IsBetweenSteps, StepsAt, StepsIn};
 ghost use Rattle.mux_end.specs.Stands.{EndValue};
-ghost use Rattle.mux_end.specs.Tests.{is_running_state};
-ghost use Rattle.mux_items.specs.Items.{Item, is_running};
-ghost use Rattle.mux_run.specs.Answers.{answer_at};
-ghost use Rattle.mux_run.specs.Built.{is_built_call, is_built_step, is_offer_call, is_offer_step};
-ghost use Rattle.mux_run.specs.Run.{RunSide, Terms, SideTerms, World, settled, side_of};
+ghost use Rattle.mux_items.specs.Items.{Item};
+ghost use Rattle.mux_run.specs.Run.{RunSide, SideTerms, Terms, World, settled, side_of, terms_at_a};
 ghost use Rattle.mux_run.specs.declared.steps.Side.{Side};
-ghost use Rattle.std.specs.Prelude.{◌≡◌, ℕ, List, [], OnOk, IfOk, None, true};
+ghost use Rattle.std.specs.Prelude.{◌≡◌, ℕ, List, OnOk, IfOk, IsOkAnd, MatchResult};
 
 use mux_end::{MuxEnd, MuxStep};
 use mux_run::{Call, DuoAnswer, EndEvent, EventList, Reply, Side, Step};
@@ -25,11 +23,14 @@ fn is_running(end: &MuxEnd) -> bool
     }
 }
 
-/// Applies at an end that runs what is whole of the bytes that it was given.
+/// Applies, at an end that runs, what is whole of the bytes that it was given.
 fn settle(own: &mut MuxEnd, events: &mut EventList) -> Result<(), OutOfMemory>
-    ensures { (w : SideTerms) (delivered older : ℕ) (items : List Item) (y : RunSide) → IsOnWay w delivered older own.old events.old items y →
+    ensures { (w : SideTerms) (delivered older : ℕ) (items : List Item) (y : RunSide) → IsMidStep w delivered older own.old events.old items y →
         OnOk result (IsSettled w older own.new events.new (settled w delivered items y) y) }
 {
+    if !is_running(own) {
+        return Ok(());
+    }
     'steps: loop {
         match own.step() {
             MuxStep::Event(event) => events.push(EndEvent::Mux(event))?,
@@ -43,115 +44,109 @@ fn settle(own: &mut MuxEnd, events: &mut EventList) -> Result<(), OutOfMemory>
     }
 }
 
-/// What a fault answers.
-fn refused(fault: CallFault) -> Result<Reply, OutOfMemory>
-    ensures { Answered fault result }
+/// The reply to a call that answers nothing more.
+fn done(answer: Result<(), CallFault>) -> Result<Reply, CallFault>
+    ensures { MatchResult answer (λ _. IsOkAnd result (λ r. r ≡ Reply.Done)) (λ e. result ≡ Err e) }
 {
-    match fault {
-        CallFault::Refused(refusal) => Ok(Reply::Refused(refusal)),
-        CallFault::OutOfMemory => Err(OutOfMemory),
+    match answer {
+        Ok(()) => Ok(Reply::Done),
+        Err(fault) => Err(fault),
     }
 }
 
 /// Makes a call at an end.
-fn make_call(alloc: Global, own: &mut MuxEnd, call: &Call) -> Result<Reply, OutOfMemory>
-    requires built { is_built_call call.now ≡ true }
-    requires free { is_offer_call call.now ≡ true → own.old.channel ≡ None }
-    ensures { (w : SideTerms) (x y : RunSide) → IsCallable w own.old x y → IfOk result (Calls w call.now own.new x y) }
+fn try_call(alloc: Global, own: &mut MuxEnd, call: &Call) -> Result<Reply, CallFault>
+    ensures { (w : SideTerms) (x y : RunSide) → StandsForSide w own.old x y → CallsOrFails w call.now own.new x y result }
 {
     match call {
         Call::Offer(name, window) => {
             // a text is UTF-8, which the frame of the offer asks
             let _text = name.as_str();
-            match own.offer(name, *window) {
-                Ok(key) => Ok(Reply::Made(key)),
-                Err(fault) => refused(fault),
-            }
+            own.offer(name, *window).map(Reply::Made)
         }
-        Call::Accept(key, window) => match own.accept(*key, *window) {
-            Ok(()) => Ok(Reply::Done),
-            Err(fault) => refused(fault),
-        },
-        Call::Write(key, bytes) => match own.write(*key, bytes.as_bytes()) {
-            Ok(()) => Ok(Reply::Done),
-            Err(fault) => refused(fault),
-        },
+        Call::Accept(key, window) => done(own.accept(*key, *window)),
+        Call::Write(key, bytes) => done(own.write(*key, bytes.as_bytes())),
         Call::Read(key, max) => {
             let mut bytes = Vec::new(alloc);
-            match own.read(*key, *max as usize, &mut bytes) {
-                Ok(_) => Ok(Reply::Bytes(Blob::from_bytes(alloc, bytes.as_slice())?)),
-                Err(fault) => refused(fault),
+            own.read(*key, *max as usize, &mut bytes)?;
+            match Blob::from_bytes(alloc, bytes.as_slice()) {
+                Ok(read) => Ok(Reply::Bytes(read)),
+                Err(_) => Err(CallFault::OutOfMemory),
             }
         }
-        Call::Complete(_) | Call::Terminate(_) => unreachable!(),
+        Call::Complete(key) => done(own.complete(*key)),
+        Call::Terminate(key) => done(own.terminate(*key)),
     }
 }
 
-/// Gives an end the next bytes of the other's output, at most so many, lets it apply what is whole, and answers how
-/// many were given.
+/// The same, where a refusal is a reply.
+fn make_call(alloc: Global, own: &mut MuxEnd, call: &Call) -> Result<Reply, OutOfMemory>
+    ensures { (w : SideTerms) (x y : RunSide) → StandsForSide w own.old x y → IfOk result (Calls w call.now own.new x y) }
+{
+    match try_call(alloc, own, call) {
+        Ok(reply) => Ok(reply),
+        Err(CallFault::Refused(refusal)) => Ok(Reply::Refused(refusal)),
+        Err(CallFault::OutOfMemory) => Err(OutOfMemory),
+    }
+}
+
+/// Makes a call at an end, and lets it apply what is whole.
+fn call_at(alloc: Global, own: &mut MuxEnd, call: &Call) -> Result<DuoAnswer, OutOfMemory>
+    ensures { (w : SideTerms) (side : Side) (peer : EndValue) (x y : RunSide) → IsBetweenSteps w own.old peer x y →
+        IfOk result (StepsAt w (Step.Call side call.now) own.new peer x y) }
+{
+    let mut events = EventList::new(alloc);
+    let reply = make_call(alloc, own, call)?;
+    settle(own, &mut events)?;
+    Ok(DuoAnswer::Replied(reply, events))
+}
+
+/// Gives an end that runs the next bytes of the other's output, at most so many, and lets it apply what is whole.
 fn deliver(
+    alloc: Global,
     own: &mut MuxEnd,
     peer: &mut MuxEnd,
     n: u64,
-    events: &mut EventList,
-) -> Result<u64, OutOfMemory>
-    ensures { (w : SideTerms) (side : Side) (x y : RunSide) → IsReadyFor w (Step.Deliver side n) own.old peer.old x y → events.old ≡ [] →
-        IfOk result (Delivers w n own.new peer.new events.new x y) }
+) -> Result<DuoAnswer, OutOfMemory>
+    ensures { (w : SideTerms) (side : Side) (x y : RunSide) → IsBetweenSteps w own.old peer.old x y →
+        IfOk result (StepsAt w (Step.Deliver side n) own.new peer.new x y) }
 {
+    let mut events = EventList::new(alloc);
     if !is_running(own) {
-        return Ok(0);
+        return Ok(DuoAnswer::Delivered(0, events));
     }
     let pending = peer.pending_output();
     let count = n.min(pending.len() as u64) as usize;
     match own.feed(&pending[..count])? {
         EndState::Running => {
             peer.took(count);
-            settle(own, events)?;
-            Ok(count as u64)
+            settle(own, &mut events)?;
+            Ok(DuoAnswer::Delivered(count as u64, events))
         }
         EndState::Ended(cause) => {
             events.push(EndEvent::Ended(cause))?;
-            Ok(0)
+            Ok(DuoAnswer::Delivered(0, events))
         }
         EndState::Stopped => Err(OutOfMemory),
     }
 }
 
-/// Makes a call at an end, and lets it apply what is whole.
-fn answer_call(alloc: Global, own: &mut MuxEnd, call: &Call) -> Result<DuoAnswer, OutOfMemory>
-    requires built { is_built_call call.now ≡ true }
-    requires free { is_offer_call call.now ≡ true → own.old.channel ≡ None }
-    ensures { (w : SideTerms) (side : Side) (peer : EndValue) (x y : RunSide) → IsReadyFor w (Step.Call side call.now) own.old peer x y →
-        IfOk result (CallAnswersAt w side call.now own.new x y) }
-{
-    let mut events = EventList::new(alloc);
-    let running = is_running(own);
-    let reply = make_call(alloc, own, call)?;
-    if running {
-        settle(own, &mut events)?;
-    }
-    Ok(DuoAnswer::Replied(reply, events))
-}
-
 /// Makes a step at one side, whose end comes first.
-fn answer_step(
+fn step_at(
     alloc: Global,
     own: &mut MuxEnd,
     peer: &mut MuxEnd,
     step: &Step,
 ) -> Result<DuoAnswer, OutOfMemory>
-    requires built { is_built_step step.now ≡ true }
-    requires free { is_offer_step step.now ≡ true → own.old.channel ≡ None }
-    ensures { (w : SideTerms) (x y : RunSide) → IsReadyFor w step.now own.old peer.old x y → IfOk result (StepAnswersAt w step.now own.new peer.new x y) }
+    ensures { (w : SideTerms) (x y : RunSide) → IsBetweenSteps w own.old peer.old x y → IfOk result (StepsAt w step.now own.new peer.new x y) }
 {
     match step {
-        Step::Call(_, call) => answer_call(alloc, own, call),
-        Step::Deliver(_, n) => {
-            let mut events = EventList::new(alloc);
-            let count = deliver(own, peer, *n, &mut events)?;
-            Ok(DuoAnswer::Delivered(count, events))
+        Step::Call(_, call) => call_at(alloc, own, call),
+        Step::Deliver(_, n) => deliver(alloc, own, peer, *n),
+        Step::End(_) => {
+            own.end_of_input();
+            Ok(DuoAnswer::Ended)
         }
-        Step::End(_) => unreachable!(),
     }
 }
 
@@ -164,20 +159,16 @@ fn side_of(step: &Step) -> Side
 }
 
 /// Makes a step at its side.
-pub fn answer(
+pub fn make_step(
     alloc: Global,
     a: &mut MuxEnd,
     b: &mut MuxEnd,
     step: &Step,
 ) -> Result<DuoAnswer, OutOfMemory>
-    requires built { is_built_step step.now ≡ true }
-    requires free_a { is_offer_step step.now ≡ true → a.old.channel ≡ None }
-    requires free_b { is_offer_step step.now ≡ true → b.old.channel ≡ None }
-    ensures { (terms : Terms) (w : World) → IsReadyAt terms (side_of step.now) step.now a.old b.old w →
-        IfOk result (WorldAnswers terms step.now a.new b.new w) }
+    ensures { (terms : Terms) (w : World) → IsBetweenSteps (terms_at_a terms) a.old b.old w.a w.b → IfOk result (StepsIn terms step.now a.new b.new w) }
 {
     match side_of(step) {
-        Side::A => answer_step(alloc, a, b, step),
-        Side::B => answer_step(alloc, b, a, step),
+        Side::A => step_at(alloc, a, b, step),
+        Side::B => step_at(alloc, b, a, step),
     }
 }

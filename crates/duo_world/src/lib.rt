@@ -3,7 +3,7 @@
 
 mod duo;
 mod ends;
-#[cfg(test)]
-mod tests;
+//TEST
+//mod tests;
 
 pub use duo::Duo;
