@@ -185,7 +185,7 @@ call_done w c old new x y IsAnswer z parts h a =
       p.2,
       ap (λ r. refused_or r (success v c items)) ok,
       subst (λ items. StandsForSide w new (side_with items x.delivered) y) (sym (ap (λ r. unless_refused r item items) ok))
-      (stands_item w old new item items x.delivered y (got_call c items) (greeting_call c items) (call_in_range w c items parts h.in_range ok) h p.1),
+          (stands_item w old new item items x.delivered y (got_call c items) (greeting_call c items) (call_in_range w c items parts h.in_range ok) h p.1),
     )
 
 pub call_failed : {A : Type 0} (w : SideTerms) (c d : Call) (old new : EndValue) (x y : RunSide) (IsAnswer : A → Type 0) (f : CallFault) → c ≡ d → StandsForSide w old x y → AnswersAt w d old new x y IsAnswer (Err f)

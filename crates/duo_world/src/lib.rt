@@ -3,7 +3,7 @@
 
 mod duo;
 mod ends;
-//TEST
-//mod tests;
+#[cfg(test)]
+mod tests;
 
 pub use duo::Duo;
