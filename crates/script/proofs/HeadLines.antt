@@ -13,13 +13,15 @@ use Rattle.wire_base.specs.declared.frame.Version.TheVariants as version
 use Rattle.script.specs.declared.reason.ScriptReason.{ScriptReason}
 use Rattle.script.specs.declared.reason.ScriptReason.TheVariants as reason
 use Rattle.script.specs.Lines.{TextLine}
-use Rattle.script.specs.Spelling.{AreTerms, is_byte, is_nonce, is_line_text, stands_in_line, has_nonces, version_line, nonce_words, nonce_line, nonce_lines, head_lines}
+use Rattle.text_words.specs.Written.{is_nonce, is_line_text, stands_in_line}
+use Rattle.script.specs.Spelling.{AreTerms, has_nonces, version_line, nonce_words, nonce_line, nonce_lines, head_lines}
 use Rattle.script.specs.Steps.{on_ok, text_in, format_in, version_in}
 use Rattle.script.specs.Found.{Found, breaks, behind, head_from}
-use Rattle.script.proofs.ByteTests.{and_true, same_from_bytes_eq}
+use Rattle.text_words.proofs.ByteTests.{and_true, same_from_bytes_eq}
+use Rattle.text_words.proofs.Joined.{joined-text}
 use Rattle.script.proofs.TextLemmas.{text_in-ended}
 use Rattle.script.proofs.LineTexts.{whole_line}
-use Rattle.script.proofs.PlainWords.{nonce_words-texts, texts_are_utf8, texts_are_words, utf8_joined, feed_joined}
+use Rattle.script.proofs.NonceLines.{nonce_words-texts}
 use Rattle.script.proofs.StepLines.{on_ok-ok, text_in-ok, IsWhole}
 
 -- the lines of a head are texts
@@ -35,11 +37,7 @@ version_line-text version.Two = refl
 version_line-text version.Three = refl
 
 pub nonce_line-text : (side : Side) (nonce : List ℕ) → is_nonce nonce ≡ true → is_line_text (nonce_line side nonce) ≡ true
-nonce_line-text side nonce h =
-    let t = nonce_words-texts side nonce (and_parts _ (list_all is_byte nonce) h).1 in
-    and_true (is_utf8 (nonce_line side nonce)) (list_all stands_in_line (nonce_line side nonce))
-    (is_utf8-from_IsUtf8 (nonce_line side nonce) (utf8_joined (nonce_words side nonce) (texts_are_utf8 (nonce_words side nonce) t)))
-    (feed_joined (nonce_words side nonce) (texts_are_words (nonce_words side nonce) t))
+nonce_line-text side nonce h = joined-text (nonce_words side nonce) (nonce_words-texts side nonce h)
 
 nonce_lines-texts : (terms : Terms) → AreTerms terms → list_all is_line_text (nonce_lines terms) ≡ true
 nonce_lines-texts terms h =

@@ -8,39 +8,39 @@ use Rattle.script.specs.Lines.{TextLine}
 use Rattle.script.specs.Spelling.{AreTerms, has_nonces, no_nonce, version_line, nonce_line, nonce_lines, head_lines}
 use Rattle.script.specs.Steps.{format_in, version_in, nonce_line_in}
 use Rattle.script.specs.Found.{breaks, steps_from, nonce_b_from, nonces_from, version_from, script_from}
-use Rattle.script.proofs.ByteTests.{tested, not_both}
+use Rattle.text_words.proofs.ByteTests.{tested, not_both}
 use Rattle.script.proofs.LineTexts.{whole_line}
-use Rattle.script.proofs.NonceWords.{nonce_line_in-line, nonce_line_in-ok}
+use Rattle.script.proofs.NonceLines.{nonce_line_in-line, nonce_line_in-ok}
 use Rattle.script.proofs.HeadLines.{format_line-text, version_line-text, nonce_line-text, format_in-line, format_in-ok, version_in-line, version_in-ok, reads_line, head_from-cases}
 
 -- behind the nonces of a version that has some
 nonces_some : (terms : Terms) (rest : List TextLine) → AreTerms terms → has_nonces terms.version ≡ true
-    → nonces_from terms.version (whole_line (nonce_line A terms.nonce_a) ∷ whole_line (nonce_line B terms.nonce_b) ∷ rest) ≡ steps_from terms [] 5 rest
+    → nonces_from terms.version (whole_line (nonce_line A terms.nonce_a) ∷ whole_line (nonce_line B terms.nonce_b) ∷ rest) ≡ steps_from terms [] 0 5 rest
 nonces_some terms rest h e =
     let a = reads_line (nonce_line_in A) (nonce_line A terms.nonce_a) terms.nonce_a (nonce_line-text A terms.nonce_a h.a) (nonce_line_in-line A terms.nonce_a h.a) in
     let b = reads_line (nonce_line_in B) (nonce_line B terms.nonce_b) terms.nonce_b (nonce_line-text B terms.nonce_b h.b) (nonce_line_in-line B terms.nonce_b h.b) in
     rw (e, a, b) refl
 
-nonces_none : (terms : Terms) (rest : List TextLine) → AreTerms terms → has_nonces terms.version ≡ false → nonces_from terms.version rest ≡ steps_from terms [] 3 rest
+nonces_none : (terms : Terms) (rest : List TextLine) → AreTerms terms → has_nonces terms.version ≡ false → nonces_from terms.version rest ≡ steps_from terms [] 0 3 rest
 nonces_none terms rest h e =
-    rw e (ap₂ (λ a b. steps_from (record { version = terms.version; nonce_a = a; nonce_b = b }) [] 3 rest) (sym (h.none_a e)) (sym (h.none_b e)))
+    rw e (ap₂ (λ a b. steps_from (record { version = terms.version; nonce_a = a; nonce_b = b }) [] 0 3 rest) (sym (h.none_a e)) (sym (h.none_b e)))
 
 nonces_after : (terms : Terms) (rest : List TextLine) → AreTerms terms
-    → nonces_from terms.version (map whole_line (nonce_lines terms) ++ rest) ≡ steps_from terms [] (length (head_lines terms) + 1) rest
+    → nonces_from terms.version (map whole_line (nonce_lines terms) ++ rest) ≡ steps_from terms [] 0 (length (head_lines terms) + 1) rest
 nonces_after terms rest h = elim (tested (has_nonces terms.version)) [
   | inl e ↦ nonces_lines_some e
   | inr e ↦ nonces_lines_none e
 ]
   where
-    nonces_lines_some : has_nonces terms.version ≡ true → nonces_from terms.version (map whole_line (nonce_lines terms) ++ rest) ≡ steps_from terms [] (length (head_lines terms) + 1) rest
+    nonces_lines_some : has_nonces terms.version ≡ true → nonces_from terms.version (map whole_line (nonce_lines terms) ++ rest) ≡ steps_from terms [] 0 (length (head_lines terms) + 1) rest
     nonces_lines_some e = let all = nonces_some terms rest h e in rw e (rw e at all)
 
-    nonces_lines_none : has_nonces terms.version ≡ false → nonces_from terms.version (map whole_line (nonce_lines terms) ++ rest) ≡ steps_from terms [] (length (head_lines terms) + 1) rest
+    nonces_lines_none : has_nonces terms.version ≡ false → nonces_from terms.version (map whole_line (nonce_lines terms) ++ rest) ≡ steps_from terms [] 0 (length (head_lines terms) + 1) rest
     nonces_lines_none e = let all = nonces_none terms rest h e in rw e (rw e at all)
 
 -- behind a head
 pub head_goes_on : (terms : Terms) (rest : List TextLine) → AreTerms terms
-    → script_from (map whole_line (head_lines terms) ++ rest) ≡ steps_from terms [] (length (head_lines terms) + 1) rest
+    → script_from (map whole_line (head_lines terms) ++ rest) ≡ steps_from terms [] 0 (length (head_lines terms) + 1) rest
 head_goes_on terms rest h =
     let format = reads_line format_in (codes "script 1") tt format_line-text format_in-line in
     let version = reads_line version_in (version_line terms.version) terms.version (version_line-text terms.version) (version_in-line terms.version) in
@@ -94,7 +94,7 @@ has_some v lines e = elim (head_from-cases 3 (nonce_line_in A) (nonce_b_from v) 
     place = omega arith;
     is = rw e f.is;
   })
-  | inl a ↦ elim (head_from-cases 4 (nonce_line_in B) (λ b. steps_from (record { version = v; nonce_a = a.value; nonce_b = b }) [] 5) a.rest) [
+  | inl a ↦ elim (head_from-cases 4 (nonce_line_in B) (λ b. steps_from (record { version = v; nonce_a = a.value; nonce_b = b }) [] 0 5) a.rest) [
     | inr f ↦ inr (record {
       none = λ terms rest h same is.
           let both : whole_line a.text ∷ a.rest ≡ whole_line (nonce_line A terms.nonce_a) ∷ whole_line (nonce_line B terms.nonce_b) ∷ rest =

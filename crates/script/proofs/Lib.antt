@@ -1,18 +1,12 @@
-mod ByteTests
-mod LineLemmas
-mod NumberLemmas
-mod HexWords
-mod FrontLemmas
-mod TextLemmas
-mod Splits
-mod LineTexts
-mod StepWords
-mod PlainWords
-mod NonceWords
-mod StepLines
-mod Counts
-mod HeadLines
-mod Heads
-mod Scripts
-mod ScriptLaws
-mod AnswersOfRead
+pub mod TextLemmas
+pub mod LineLemmas
+pub mod LineTexts
+pub mod StepWords
+pub mod StepLines
+pub mod Counts
+pub mod Scripts
+pub mod NonceLines
+pub mod HeadLines
+pub mod Heads
+pub mod ScriptLaws
+pub mod AnswersOfRead

@@ -3,9 +3,10 @@ use Rattle.std.proofs.Common.{◌≡◌, ℕ, Bool, true, false, cond, eqb, eqb-
 use Rattle.std.specs.List.{list_all, flat_map}
 use Rattle.std.specs.Str.{is_utf8}
 use Rattle.std.proofs.lemmas.Bool.{and_parts}
-use Rattle.script.specs.Spelling.{ended, stands_in_line, is_line_text}
+use Rattle.script.specs.Spelling.{ended}
+use Rattle.text_words.specs.Written.{stands_in_line, is_line_text}
 use Rattle.script.specs.Lines.{TextLine, lines_of, onto_line, line_bytes}
-use Rattle.script.proofs.ByteTests.{tested}
+use Rattle.text_words.proofs.ByteTests.{tested}
 
 not_false : (b : Bool) → not b ≡ true → b ≡ false
 not_false true h = cc

@@ -11,40 +11,41 @@ use Rattle.mux_run.specs.Run.{Terms}
 use Rattle.mux_run.specs.declared.steps.Step.{Step}
 use Rattle.script.specs.declared.reason.ScriptReason.{ScriptReason}
 use Rattle.script.specs.declared.reason.ScriptReason.TheVariants as reason
-use Rattle.script.specs.Spelling.{AreTerms, AreScripted, is_spellable, step_text, step_words, step_lines, script_text, head_lines, head_text, stands_in_line, is_line_text}
+use Rattle.text_words.specs.Written.{is_line_text, stands_in_line}
+use Rattle.text_words.specs.Reading.{words_of}
+use Rattle.text_words.proofs.Joined.{line-words}
+use Rattle.script.specs.Spelling.{StepLine, AreTerms, AreScripted, is_spellable, line_text, line_words, step_lines, steps_of, filled_in, script_text, head_lines, head_text}
 use Rattle.script.specs.Lines.{TextLine, lines_of, line_bytes}
-use Rattle.script.specs.Words.{words_of}
-use Rattle.script.specs.Steps.{step_in, begins_built}
-use Rattle.script.specs.Found.{reads, breaks, steps_from, script_from, script_in, BreaksHead, BreaksBehind, IsScript}
-use Rattle.script.proofs.ByteTests.{tested}
+use Rattle.script.specs.Steps.{step_in, begins_step}
+use Rattle.script.specs.Found.{reads, breaks, steps_from, script_from, script_in, BreaksHead, BreaksBehind, IsScript, IsScriptOf}
 use Rattle.script.proofs.LineTexts.{lacks_feed, lines_of-lack, flat_map-lines_of, whole_line, lines_of-lines, flat_map-lines}
-use Rattle.script.proofs.StepLines.{step_text-words, text_words}
-use Rattle.script.proofs.StepWords.{has_word, step_in-words, step_in-other, step_in-ok, bad_word-begins, bad_or_step}
+use Rattle.script.proofs.StepLines.{line_text-words}
+use Rattle.script.proofs.StepWords.{step_in-words, step_in-ok, bad_word-begins, bad_or_step}
 use Rattle.script.proofs.HeadLines.{head_lines-texts}
 use Rattle.script.proofs.Heads.{head_goes_on, IsHeadless, head_cases}
-use Rattle.script.proofs.Scripts.{steps_from-lines, steps_from-reads, steps_from-breaks}
+use Rattle.script.proofs.Scripts.{from_lines-lines, from_lines-reads, from_lines-breaks}
 
 none_scripted : AreScripted []
-none_scripted = record { spellable = refl; built = record { each = refl; one_offer = omega arith }; few = omega arith }
+none_scripted = record { spellable = refl; few = omega arith; within = omega arith }
 
 -- the lines of a text that begins with a head
 headed_lines : (terms : Terms) (rest : List ℕ) → AreTerms terms → lines_of (head_text terms ++ rest) ≡ map whole_line (head_lines terms) ++ lines_of rest
 headed_lines terms rest h = lines_of-lines (head_lines terms) rest (head_lines-texts terms h)
 
 -- behind the text of a script the next line decides
-pub goes_on : (terms : Terms) (steps : List Step) (rest : List ℕ) → AreTerms terms → AreScripted steps
-    → script_in (script_text terms steps ++ rest) ≡ steps_from terms steps (length steps + length (head_lines terms) + 1) (lines_of rest)
-goes_on terms steps rest h scripted =
+pub goes_on : (terms : Terms) (lines : List StepLine) (rest : List ℕ) → AreTerms terms → AreScripted lines
+    → script_in (script_text terms lines ++ rest) ≡ steps_from terms (steps_of lines) (filled_in lines) (length lines + length (head_lines terms) + 1) (lines_of rest)
+goes_on terms lines rest h scripted =
     let first = length (head_lines terms) + 1 in
-    let place : first + length steps ≡ length steps + length (head_lines terms) + 1 = omega arith in
-    ap script_in (append_assoc (head_text terms) (step_lines steps) rest)
-    ∙ (ap script_from (headed_lines terms (step_lines steps ++ rest) h)
-    ∙ (head_goes_on terms (lines_of (step_lines steps ++ rest)) h
-    ∙ (steps_from-lines terms [] steps first rest scripted ∙ ap (λ number. steps_from terms steps number (lines_of rest)) place)))
+    let place : first + length lines ≡ length lines + length (head_lines terms) + 1 = omega arith in
+    ap script_in (append_assoc (head_text terms) (step_lines lines) rest)
+    ∙ (ap script_from (headed_lines terms (step_lines lines ++ rest) h)
+    ∙ (head_goes_on terms (lines_of (step_lines lines ++ rest)) h
+    ∙ (from_lines-lines terms [] lines first rest scripted ∙ ap (λ number. steps_from terms (steps_of lines) (filled_in lines) number (lines_of rest)) place)))
 
 -- what is written is read
-pub written : (terms : Terms) (steps : List Step) → AreTerms terms → AreScripted steps → script_in (script_text terms steps) ≡ reads terms steps
-written terms steps h scripted = sym (ap script_in (append-nil (script_text terms steps))) ∙ goes_on terms steps [] h scripted
+pub written : (terms : Terms) (lines : List StepLine) → AreTerms terms → AreScripted lines → script_in (script_text terms lines) ≡ reads terms (steps_of lines)
+written terms lines h scripted = sym (ap script_in (append-nil (script_text terms lines))) ∙ goes_on terms lines [] h scripted
 
 lacks_behind : (texts : List (List ℕ)) (rest : List TextLine) → list_all lacks_feed (map whole_line texts ++ rest) ≡ true → list_all lacks_feed rest ≡ true
 lacks_behind texts rest h =
@@ -53,46 +54,44 @@ lacks_behind texts rest h =
 no_reads : (terms : Terms) (steps : List Step) (number : ℕ) (fault : ScriptReason) → breaks number fault ≢ reads terms steps
 no_reads terms steps number fault h = cc h
 
-script_from-reads : (lines : List TextLine) (terms : Terms) (steps : List Step) → list_all lacks_feed lines ≡ true → script_from lines ≡ reads terms steps → IsScript (flat_map line_bytes lines) terms steps
-script_from-reads lines terms steps lacks h = elim (head_cases lines) [
+script_from-reads : (rest : List TextLine) (terms : Terms) (steps : List Step) → list_all lacks_feed rest ≡ true → script_from rest ≡ reads terms steps → IsScriptOf (flat_map line_bytes rest) terms steps
+script_from-reads rest terms steps lacks h = elim (head_cases rest) [
   | inr none ↦ absurd (no_reads terms steps none.number none.fault (sym none.is ∙ h))
   | inl head ↦
       let all = sym (ap script_from head.is ∙ head_goes_on head.terms head.rest head.terms_are) ∙ h in
-      let read = steps_from-reads head.terms [] (length (head_lines head.terms) + 1) head.rest terms steps none_scripted (lacks_behind (head_lines head.terms) head.rest (rw head.is at lacks)) all in
-      record {
-        terms_are = subst AreTerms read.terms_are head.terms_are;
-        scripted = read.scripted;
-        text = ap (flat_map line_bytes) head.is ∙ (flat_map-lines (head_lines head.terms) head.rest ∙ ap₂ (λ t bytes. head_text t ++ bytes) read.terms_are read.text);
-      }
+      let read = from_lines-reads head.terms [] (length (head_lines head.terms) + 1) head.rest terms steps none_scripted (lacks_behind (head_lines head.terms) head.rest (rw head.is at lacks)) all in (
+        read.all,
+        read.steps_are,
+        record {
+          terms_are = subst AreTerms read.terms_are head.terms_are;
+          scripted = read.scripted;
+          text = ap (flat_map line_bytes) head.is ∙ (flat_map-lines (head_lines head.terms) head.rest ∙ ap₂ (λ t bytes. head_text t ++ bytes) read.terms_are read.text);
+        },
+      )
 ]
 
 -- what is read is written so
-pub is_read : (bytes : List ℕ) (terms : Terms) (steps : List Step) → script_in bytes ≡ reads terms steps → IsScript bytes terms steps
+pub is_read : (bytes : List ℕ) (terms : Terms) (steps : List Step) → script_in bytes ≡ reads terms steps → IsScriptOf bytes terms steps
 is_read bytes terms steps h =
-    let P : List ℕ → Type 0 = λ x. IsScript x terms steps in
+    let P : List ℕ → Type 0 = λ x. IsScriptOf x terms steps in
     subst P (flat_map-lines_of bytes) (script_from-reads (lines_of bytes) terms steps (lines_of-lack bytes) h)
 
-abbrev SomeBehind : List ℕ → ℕ → ScriptReason → Type 0
-SomeBehind bytes number fault = (terms : Terms) × (steps : List Step) × (line : TextLine) × (later : List TextLine) × BreaksBehind bytes number fault terms steps line later
-
 broken_behind : (terms : Terms) (rest : List TextLine) (number : ℕ) (fault : ScriptReason) → AreTerms terms → list_all lacks_feed rest ≡ true
-    → steps_from terms [] (length (head_lines terms) + 1) rest ≡ breaks number fault → SomeBehind (head_text terms ++ flat_map line_bytes rest) number fault
+    → steps_from terms [] 0 (length (head_lines terms) + 1) rest ≡ breaks number fault → BreaksBehind (head_text terms ++ flat_map line_bytes rest) number fault
 broken_behind terms rest number fault h lacks e =
-    let d = steps_from-breaks terms [] (length (head_lines terms) + 1) rest number fault none_scripted lacks e in
-    let broken = d.3 in
-    let place = broken.place in (
-      terms,
-      d.0,
-      d.1,
-      d.2,
-      record {
-        terms_are = h;
-        scripted = broken.scripted;
-        text = ap (λ bytes. head_text terms ++ bytes) broken.text ∙ sym (append_assoc (head_text terms) (step_lines d.0) (flat_map line_bytes (d.1 ∷ d.2)));
-        place = omega arith;
-        broken = broken.broken;
-      },
-    )
+    let broken = from_lines-breaks terms [] (length (head_lines terms) + 1) rest number fault none_scripted lacks e in
+    let place = broken.place in
+    record {
+      terms = terms;
+      before = broken.before;
+      line = broken.line;
+      later = broken.later;
+      terms_are = h;
+      scripted = broken.scripted;
+      text = ap (λ bytes. head_text terms ++ bytes) broken.text ∙ sym (append_assoc (head_text terms) (step_lines broken.before) (flat_map line_bytes (broken.line ∷ broken.later)));
+      place = omega arith;
+      broken = broken.broken;
+    }
 
 same_break : (n m : ℕ) (fault other : ScriptReason) → breaks n fault ≡ breaks m other → n ≡ m
 same_break n m fault other h = cc
@@ -101,43 +100,38 @@ no_head : (bytes : List ℕ) → IsHeadless (lines_of bytes) → (terms : Terms)
 no_head bytes none terms rest h same = none.none terms (lines_of rest) h (ap lines_of same ∙ headed_lines terms rest h)
 
 -- the first broken line is one of a head's, or what stands before it is a script
-pub is_broken : (bytes : List ℕ) (number : ℕ) (fault : ScriptReason) → script_in bytes ≡ breaks number fault → BreaksHead bytes number ⊎ SomeBehind bytes number fault
+pub is_broken : (bytes : List ℕ) (number : ℕ) (fault : ScriptReason) → script_in bytes ≡ breaks number fault → BreaksHead bytes number ⊎ BreaksBehind bytes number fault
 is_broken bytes number fault h = elim (head_cases (lines_of bytes)) [
   | inr none ↦
       let same = same_break none.number number none.fault fault (sym none.is ∙ h) in
       let place = none.place in
       inl (record { no_head = no_head bytes none; place = omega arith })
   | inl head ↦
-      let P : List ℕ → Type 0 = λ x. SomeBehind x number fault in
+      let P : List ℕ → Type 0 = λ x. BreaksBehind x number fault in
       let lacks = lacks_behind (head_lines head.terms) head.rest (rw head.is at (lines_of-lack bytes)) in
       let all = sym (ap script_from head.is ∙ head_goes_on head.terms head.rest head.terms_are) ∙ h in
       let text : head_text head.terms ++ flat_map line_bytes head.rest ≡ bytes = sym (flat_map-lines (head_lines head.terms) head.rest) ∙ (ap (flat_map line_bytes) (sym head.is) ∙ flat_map-lines_of bytes) in
       inr (subst P text (broken_behind head.terms head.rest number fault head.terms_are lacks all))
 ]
 
-step_in-spelled : (s : Step) → is_spellable s ≡ true → step_in (step_words s) ≢ Err reason.BadWord
-step_in-spelled s spelled h = elim (tested (has_word s)) [
-  | inl word ↦ let e = step_in-words s spelled word in cc
-  | inr other ↦ let e = step_in-other s other in cc
-]
+joined : (text : List ℕ) (line : StepLine) → words_of text ≡ line_words line → line_text line ≡ text
+joined text line e = sym (sym (join_with_byte-slice_split 32 text) ∙ ap (join_with_byte 32) e)
 
-joined : (text : List ℕ) (s : Step) → words_of text ≡ step_words s → step_text s ≡ text
-joined text s e = sym (sym (join_with_byte-slice_split 32 text) ∙ ap (join_with_byte 32) e)
+no_bad_word : (line : StepLine) → is_spellable line ≡ true → step_in (line_words line) ≢ Err reason.BadWord
+no_bad_word line spelled h = let e = step_in-words line spelled in cc
 
--- a line has a bad word exactly if it begins as a step that is built and is the text of none
+-- a line has a bad word exactly if it begins with a step word and is the text of no step
 pub bad_word : (text : List ℕ) → is_line_text text ≡ true → (step_in (words_of text) ≡ Err reason.BadWord)
-    ↔ ((begins_built (words_of text) ≡ true) × ((s : Step) → is_spellable s ≡ true → step_text s ≢ text))
-bad_word text line =
-    let l = and_parts (is_utf8 text) (list_all stands_in_line text) line in (
-      λ h. (
-        bad_word-begins (words_of text) h,
-        λ s spelled same.
-            step_in-spelled s spelled (sym (ap step_in (step_text-words s spelled)) ∙ ap (λ t. step_in (words_of t)) same ∙ h),
-      ),
-      λ p. elim (bad_or_step (words_of text) p.0) [
-        | inl h ↦ h
-        | inr q ↦
-            let read = step_in-ok (words_of text) q.0 (text_words text l.0 l.1) q.1 in
-            absurd (p.1 q.0 read.1 (joined text q.0 read.0))
-      ],
-    )
+    ↔ ((begins_step (words_of text) ≡ true) × ((line : StepLine) → is_spellable line ≡ true → line_text line ≢ text))
+bad_word text is_line = (
+  λ h. (
+    bad_word-begins (words_of text) h,
+    λ line spelled same. no_bad_word line spelled (sym (ap step_in (line_text-words line spelled)) ∙ ap (λ t. step_in (words_of t)) same ∙ h),
+  ),
+  λ p. elim (bad_or_step (words_of text) p.0) [
+    | inl h ↦ h
+    | inr q ↦
+        let read = step_in-ok (words_of text) q.0 (line-words text is_line) q.1 in
+        absurd (p.1 read.line read.spellable (joined text read.line read.is))
+  ],
+)

@@ -1,113 +1,166 @@
 -- The lines of steps, written and read.
-use Rattle.std.proofs.Common.{◌≡◌, ℕ, suc, ◌+◌, true, List, [], ◌∷◌, ◌++◌, length, length-append, refl, Result, Ok, Err, ap, subst, ◌∙◌, arith, append_assoc, add-zero}
-use Rattle.std.specs.List.{list_all, list_any, flat_map}
+use Rattle.std.proofs.Common.{◌≡◌, ℕ, suc, ◌+◌, ◌<◌, ◌≤◌, true, List, [], ◌∷◌, ◌++◌, length, map, length-append, refl, Result, Ok, Err, sym, ap, ap₂, subst, ◌∙◌, arith, append_assoc, add-zero}
+use Rattle.std.specs.List.{list_all, flat_map}
 use Rattle.std.proofs.lemmas.Bool.{and_parts}
-use Rattle.std.proofs.lemmas.List.{append-nil}
+use Rattle.std.proofs.lemmas.List.{append-nil, length-map, map-append}
 use Rattle.std.proofs.lemmas.List.Concat.{flat_map-append}
-use Rattle.mux_run.specs.Built.{is_offer_step}
 use Rattle.mux_run.specs.declared.steps.Step.{Step}
 use Rattle.mux_run.specs.Run.{Terms}
+use Rattle.text_words.specs.Written.{is_line_text, stands_in_line}
+use Rattle.std.specs.Str.{is_utf8}
+use Rattle.script.specs.declared.line_step.LineStep.{LineStep}
 use Rattle.script.specs.declared.reason.ScriptReason.{ScriptReason}
-use Rattle.script.specs.Spelling.{AreScripted, step_text, step_lines, ended}
+use Rattle.script.specs.Limits.{most_steps, most_filled}
 use Rattle.script.specs.Lines.{TextLine, lines_of, line_bytes}
+use Rattle.script.specs.Spelling.{StepLine, AreScripted, line_text, step_lines, ended, step_of, steps_of, filled_by, filled_in}
 use Rattle.script.specs.Steps.{step_after}
+use Rattle.script.specs.Table.{meaning}
 use Rattle.script.specs.Found.{Found, reads, breaks, behind, steps_from}
-use Rattle.script.proofs.Counts.{one_more, next_stands}
-use Rattle.script.proofs.LineTexts.{lacks_feed, lines_of-front}
-use Rattle.script.proofs.StepLines.{step_line, step_text-in_line, step_after-step_line, step_after-ok}
+use Rattle.script.proofs.Counts.{filled_in-append, MayStand, one_more, next_stands}
+use Rattle.script.proofs.LineTexts.{whole_line, lacks_feed, lines_of-front}
+use Rattle.script.proofs.StepLines.{line_text-text, step_after-line, IsStepLine, step_after-ok}
 
-regroup : (steps more : List Step) (s : Step) → (steps ++ s ∷ []) ++ more ≡ steps ++ s ∷ more
-regroup steps more s = append_assoc steps (s ∷ []) more
+-- the lines of a text, from this number on, behind these lines
+abbrev pub from_lines : Terms → List StepLine → ℕ → List TextLine → Found
+from_lines terms lines number rest = steps_from terms (steps_of lines) (filled_in lines) number rest
+
+-- what the line behind these lines means
+abbrev pub after_lines : List StepLine → TextLine → Result LineStep ScriptReason
+after_lines lines line = step_after (length lines) (filled_in lines) line
+
+steps_of-push : (lines : List StepLine) (line : StepLine) → steps_of lines ++ step_of line ∷ [] ≡ steps_of (lines ++ line ∷ [])
+steps_of-push lines line = sym (map-append step_of lines (line ∷ []))
+
+filled_in-push : (lines : List StepLine) (line : StepLine) → filled_in lines + filled_by line ≡ filled_in (lines ++ line ∷ [])
+filled_in-push lines line = let e = filled_in-append lines (line ∷ []) in omega arith
+
+length-steps_of : (lines : List StepLine) → length (steps_of lines) ≡ length lines
+length-steps_of lines = length-map lines step_of
+
+-- a line that means a step, and those behind it
+from_line : (terms : Terms) (lines : List StepLine) (line : StepLine) (number : ℕ) (rest : List TextLine)
+    → steps_from terms (steps_of lines ++ step_of line ∷ []) (filled_in lines + filled_by line) number rest ≡ from_lines terms (lines ++ line ∷ []) number rest
+from_line terms lines line number rest = ap₂ (λ steps filled. steps_from terms steps filled number rest) (steps_of-push lines line) (filled_in-push lines line)
+
+-- the first of these lines decides
+from_first : (terms : Terms) (lines : List StepLine) (number : ℕ) (first : TextLine) (rest : List TextLine)
+    → from_lines terms lines number (first ∷ rest) ≡ behind number (after_lines lines first) (λ l. steps_from terms (steps_of lines ++ l.step ∷ []) (filled_in lines + l.filled) (number + 1) rest)
+from_first terms lines number first rest = rw (length-steps_of lines) refl
+
+regroup : (lines more : List StepLine) (line : StepLine) → (lines ++ line ∷ []) ++ more ≡ lines ++ line ∷ more
+regroup lines more line = append_assoc lines (line ∷ []) more
 
 -- behind the lines of steps the lines after them decide
-pub steps_from-lines : (terms : Terms) (steps more : List Step) (number : ℕ) (rest : List ℕ) → AreScripted (steps ++ more)
-    → steps_from terms steps number (lines_of (step_lines more ++ rest)) ≡ steps_from terms (steps ++ more) (number + length more) (lines_of rest)
-steps_from-lines terms steps [] number rest h = rw (append-nil steps, add-zero) refl
-steps_from-lines terms steps (s ∷ more) number rest h =
-    let stands = next_stands steps more s h in
-    let text : lines_of (step_lines (s ∷ more) ++ rest) ≡ step_line s ∷ lines_of (step_lines more ++ rest) =
-    ap lines_of (append_assoc (ended (step_text s)) (step_lines more) rest) ∙ lines_of-front (step_text s) (step_lines more ++ rest) (step_text-in_line s stands.spellable) in
-    let first = step_after-step_line (length steps) (list_any is_offer_step steps) s stands.spellable stands.built stands.first_offer stands.few in
-    let scripted : AreScripted ((steps ++ s ∷ []) ++ more) = rw (regroup steps more s) h in
-    let ih = steps_from-lines terms (steps ++ s ∷ []) more (number + 1) rest scripted in
+pub from_lines-lines : (terms : Terms) (lines more : List StepLine) (number : ℕ) (rest : List ℕ) → AreScripted (lines ++ more)
+    → from_lines terms lines number (lines_of (step_lines more ++ rest)) ≡ from_lines terms (lines ++ more) (number + length more) (lines_of rest)
+from_lines-lines terms lines [] number rest h = rw (append-nil lines, add-zero) refl
+from_lines-lines terms lines (line ∷ more) number rest h =
+    let stands = next_stands lines more line h in
+    let feed = and_parts (is_utf8 (line_text line)) (list_all stands_in_line (line_text line)) (line_text-text line stands.spellable) in
+    let text : lines_of (step_lines (line ∷ more) ++ rest) ≡ whole_line (line_text line) ∷ lines_of (step_lines more ++ rest) =
+    ap lines_of (append_assoc (ended (line_text line)) (step_lines more) rest) ∙ lines_of-front (line_text line) (step_lines more ++ rest) feed.1 in
+    let first = step_after-line (length lines) (filled_in lines) line stands.spellable stands.few stands.within in
+    let scripted : AreScripted ((lines ++ line ∷ []) ++ more) = rw (regroup lines more line) h in
+    let ih = from_lines-lines terms (lines ++ line ∷ []) more (number + 1) rest scripted in
     let place : number + 1 + length more ≡ number + suc (length more) = omega arith in
-    ap (steps_from terms steps number) text
-    ∙ ap (λ r. behind number r (λ x. steps_from terms (steps ++ x ∷ []) (number + 1) (lines_of (step_lines more ++ rest)))) first
-    ∙ ih ∙ rw (regroup steps more s, place) refl
+    ap (from_lines terms lines number) text
+    ∙ (from_first terms lines number (whole_line (line_text line)) (lines_of (step_lines more ++ rest))
+    ∙ (ap (λ r. behind number r (λ l. steps_from terms (steps_of lines ++ l.step ∷ []) (filled_in lines + l.filled) (number + 1) (lines_of (step_lines more ++ rest)))) first
+    ∙ (from_line terms lines line (number + 1) (lines_of (step_lines more ++ rest))
+    ∙ (ih ∙ rw (regroup lines more line, place) refl))))
 
-pub behind_reads : {X : Type 0} (number : ℕ) (r : Result X ScriptReason) (f : X → Found) (terms : Terms) (steps : List Step) → behind number r f ≡ reads terms steps
+behind_reads : {X : Type 0} (number : ℕ) (r : Result X ScriptReason) (f : X → Found) (terms : Terms) (steps : List Step) → behind number r f ≡ reads terms steps
     → (x : X) × (r ≡ Ok x) × (f x ≡ reads terms steps)
 behind_reads number (Ok x) f terms steps h = (x, refl, h)
 behind_reads number (Err e) f terms steps h = cc h
 
-line_moved : (steps : List Step) (s : Step) (line : TextLine) (rest : List ℕ) → line.has_end ≡ true → line.text ≡ step_text s
-    → step_lines steps ++ (line_bytes line ++ rest) ≡ step_lines (steps ++ s ∷ []) ++ rest
-line_moved steps s line rest e t =
-    let bytes : line_bytes line ≡ ended (step_text s) = rw (e, t) refl in
-    rw (bytes, flat_map-append (λ (x : Step). ended (step_text x)) steps (s ∷ []), append-nil (ended (step_text s)), append_assoc (step_lines steps) (ended (step_text s)) rest) refl
+line_moved : (lines : List StepLine) (spelled : StepLine) (line : TextLine) (rest : List ℕ) → line.has_end ≡ true → line.text ≡ line_text spelled
+    → step_lines lines ++ (line_bytes line ++ rest) ≡ step_lines (lines ++ spelled ∷ []) ++ rest
+line_moved lines spelled line rest e t =
+    let bytes : line_bytes line ≡ ended (line_text spelled) = rw (e, t) refl in
+    rw (bytes, flat_map-append (λ (x : StepLine). ended (line_text x)) lines (spelled ∷ []), append-nil (ended (line_text spelled)), append_assoc (step_lines lines) (ended (line_text spelled)) rest) refl
 
--- steps that were read, behind others
-pub record HasRead (given terms : Terms) (steps found : List Step) (lines : List TextLine) : Type 0 where
+-- what a line that was read adds to those before it
+may_stand : (lines : List StepLine) (line : TextLine) (l : LineStep) → (d : IsStepLine (length lines) (filled_in lines) line l) → MayStand lines d.spelled
+may_stand lines line l d =
+    let filled : filled_by d.spelled ≡ l.filled = ap (λ (x : LineStep). x.filled) d.means in
+    let within = d.within in
+    record { spellable = d.spellable; few = d.few; within = omega arith }
+
+-- what stands behind a line that was read
+moved_on : (terms : Terms) (lines : List StepLine) (line : TextLine) (l : LineStep) (number : ℕ) (rest : List TextLine) → (d : IsStepLine (length lines) (filled_in lines) line l)
+    → steps_from terms (steps_of lines ++ l.step ∷ []) (filled_in lines + l.filled) number rest ≡ from_lines terms (lines ++ d.spelled ∷ []) number rest
+moved_on terms lines line l number rest d =
+    ap (λ (x : LineStep). steps_from terms (steps_of lines ++ x.step ∷ []) (filled_in lines + x.filled) number rest) (sym d.means) ∙ from_line terms lines d.spelled number rest
+
+-- lines that were read, behind others
+pub record HasRead (given terms : Terms) (lines : List StepLine) (steps : List Step) (rest : List TextLine) : Type 0 where
   pub terms_are : given ≡ terms
-  pub scripted : AreScripted found
-  pub text : step_lines steps ++ flat_map line_bytes lines ≡ step_lines found
+  pub all : List StepLine
+  pub steps_are : steps ≡ steps_of all
+  pub scripted : AreScripted all
+  pub text : step_lines lines ++ flat_map line_bytes rest ≡ step_lines all
 
-pub steps_from-reads : (given : Terms) (steps : List Step) (number : ℕ) (lines : List TextLine) (terms : Terms) (found : List Step) → AreScripted steps → list_all lacks_feed lines ≡ true
-    → steps_from given steps number lines ≡ reads terms found → HasRead given terms steps found lines
-steps_from-reads given steps number [] terms found h lacks e =
-    let same : steps ≡ found = cc in
-    record { terms_are = cc; scripted = subst AreScripted same h; text = append-nil (step_lines steps) ∙ ap step_lines same }
-steps_from-reads given steps number (line ∷ lines) terms found h lacks e =
-    let l = and_parts (lacks_feed line) (list_all lacks_feed lines) lacks in
-    let b = behind_reads number (step_after (length steps) (list_any is_offer_step steps) line) _ terms found e in
-    let s = b.0 in
-    let d = step_after-ok (length steps) (list_any is_offer_step steps) line s l.0 b.1 in
-    let ih = steps_from-reads given (steps ++ s ∷ []) (number + 1) lines terms found (one_more steps s h d.spellable d.built d.first_offer d.few) l.1 b.2 in
-    record { terms_are = ih.terms_are; scripted = ih.scripted; text = line_moved steps s line (flat_map line_bytes lines) d.end d.text ∙ ih.text }
+pub from_lines-reads : (given : Terms) (lines : List StepLine) (number : ℕ) (rest : List TextLine) (terms : Terms) (steps : List Step) → AreScripted lines → list_all lacks_feed rest ≡ true
+    → from_lines given lines number rest ≡ reads terms steps → HasRead given terms lines steps rest
+from_lines-reads given lines number [] terms steps h lacks e =
+    record { terms_are = cc; all = lines; steps_are = cc; scripted = h; text = append-nil (step_lines lines) }
+from_lines-reads given lines number (line ∷ rest) terms steps h lacks e =
+    let p = and_parts (lacks_feed line) (list_all lacks_feed rest) lacks in
+    let b = behind_reads number (after_lines lines line) _ terms steps (sym (from_first given lines number line rest) ∙ e) in
+    let d = step_after-ok (length lines) (filled_in lines) line b.0 p.0 b.1 in
+    let ih = from_lines-reads given (lines ++ d.spelled ∷ []) (number + 1) rest terms steps (one_more lines d.spelled h (may_stand lines line b.0 d)) p.1
+    (sym (moved_on given lines line b.0 (number + 1) rest d) ∙ b.2) in
+    record {
+      terms_are = ih.terms_are;
+      all = ih.all;
+      steps_are = ih.steps_are;
+      scripted = ih.scripted;
+      text = line_moved lines d.spelled line (flat_map line_bytes rest) d.end d.text ∙ ih.text;
+    }
 
--- the line behind these steps is broken
-pub record IsBroken (steps : List Step) (number : ℕ) (lines : List TextLine) (at : ℕ) (fault : ScriptReason) (found : List Step) (line : TextLine) (later : List TextLine) : Type 0 where
-  pub scripted : AreScripted found
-  pub text : step_lines steps ++ flat_map line_bytes lines ≡ step_lines found ++ flat_map line_bytes (line ∷ later)
-  pub place : at + length steps ≡ number + length found
-  pub broken : step_after (length found) (list_any is_offer_step found) line ≡ Err fault
+-- the line behind these lines is broken
+pub record IsBroken (lines : List StepLine) (number : ℕ) (rest : List TextLine) (at : ℕ) (fault : ScriptReason) : Type 0 where
+  pub before : List StepLine
+  pub line : TextLine
+  pub later : List TextLine
+  pub scripted : AreScripted before
+  pub text : step_lines lines ++ flat_map line_bytes rest ≡ step_lines before ++ flat_map line_bytes (line ∷ later)
+  pub place : at + length lines ≡ number + length before
+  pub broken : after_lines before line ≡ Err fault
 
-abbrev pub SomeBroken : List Step → ℕ → List TextLine → ℕ → ScriptReason → Type 0
-SomeBroken steps number lines at fault = (found : List Step) × (line : TextLine) × (later : List TextLine) × IsBroken steps number lines at fault found line later
-
-broken_later : (steps : List Step) (s : Step) (number : ℕ) (line : TextLine) (lines : List TextLine) (at : ℕ) (fault : ScriptReason) → line.has_end ≡ true → line.text ≡ step_text s
-    → SomeBroken (steps ++ s ∷ []) (number + 1) lines at fault → SomeBroken steps number (line ∷ lines) at fault
-broken_later steps s number line lines at fault e t b =
-    let broken = b.3 in
-    let place = broken.place in
-    let one = length-append steps (s ∷ []) in (
-      b.0,
-      b.1,
-      b.2,
-      record {
-        scripted = broken.scripted;
-        text = line_moved steps s line (flat_map line_bytes lines) e t ∙ broken.text;
-        place = omega arith;
-        broken = broken.broken;
-      },
-    )
+broken_later : (lines : List StepLine) (spelled : StepLine) (number : ℕ) (line : TextLine) (rest : List TextLine) (at : ℕ) (fault : ScriptReason) → line.has_end ≡ true → line.text ≡ line_text spelled
+    → IsBroken (lines ++ spelled ∷ []) (number + 1) rest at fault → IsBroken lines number (line ∷ rest) at fault
+broken_later lines spelled number line rest at fault e t b =
+    let place = b.place in
+    let one = length-append lines (spelled ∷ []) in
+    record {
+      before = b.before;
+      line = b.line;
+      later = b.later;
+      scripted = b.scripted;
+      text = line_moved lines spelled line (flat_map line_bytes rest) e t ∙ b.text;
+      place = omega arith;
+      broken = b.broken;
+    }
 
 -- where what follows a part of a line breaks
-pub behind_breaks : {X P : Type 0} (number : ℕ) (r : Result X ScriptReason) (f : X → Found) (at : ℕ) (fault : ScriptReason) → behind number r f ≡ breaks at fault
+behind_breaks : {X P : Type 0} (number : ℕ) (r : Result X ScriptReason) (f : X → Found) (at : ℕ) (fault : ScriptReason) → behind number r f ≡ breaks at fault
     → (r ≡ Err fault → number ≡ at → P) → ((x : X) → r ≡ Ok x → f x ≡ breaks at fault → P) → P
 behind_breaks number (Ok x) f at fault h bad good = good x refl h
 behind_breaks number (Err e) f at fault h bad good =
     let same : e ≡ fault = cc in
     bad (ap Err same) cc
 
-pub steps_from-breaks : (terms : Terms) (steps : List Step) (number : ℕ) (lines : List TextLine) (at : ℕ) (fault : ScriptReason) → AreScripted steps → list_all lacks_feed lines ≡ true
-    → steps_from terms steps number lines ≡ breaks at fault → SomeBroken steps number lines at fault
-steps_from-breaks terms steps number [] at fault h lacks e = cc e
-steps_from-breaks terms steps number (line ∷ lines) at fault h lacks e =
-    let l = and_parts (lacks_feed line) (list_all lacks_feed lines) lacks in
-    behind_breaks number (step_after (length steps) (list_any is_offer_step steps) line) _ at fault e
-    (λ bad place. (steps, line, lines, record { scripted = h; text = refl; place = omega arith; broken = bad }))
-    (λ s good b.
-    let d = step_after-ok (length steps) (list_any is_offer_step steps) line s l.0 good in
-    broken_later steps s number line lines at fault d.end d.text
-    (steps_from-breaks terms (steps ++ s ∷ []) (number + 1) lines at fault (one_more steps s h d.spellable d.built d.first_offer d.few) l.1 b))
+pub from_lines-breaks : (terms : Terms) (lines : List StepLine) (number : ℕ) (rest : List TextLine) (at : ℕ) (fault : ScriptReason) → AreScripted lines → list_all lacks_feed rest ≡ true
+    → from_lines terms lines number rest ≡ breaks at fault → IsBroken lines number rest at fault
+from_lines-breaks terms lines number [] at fault h lacks e = cc e
+from_lines-breaks terms lines number (line ∷ rest) at fault h lacks e =
+    let p = and_parts (lacks_feed line) (list_all lacks_feed rest) lacks in
+    behind_breaks number (after_lines lines line) _ at fault (sym (from_first terms lines number line rest) ∙ e)
+    (λ bad place. record { before = lines; line = line; later = rest; scripted = h; text = refl; place = omega arith; broken = bad })
+    (λ l good b.
+    let d = step_after-ok (length lines) (filled_in lines) line l p.0 good in
+    broken_later lines d.spelled number line rest at fault d.end d.text
+    (from_lines-breaks terms (lines ++ d.spelled ∷ []) (number + 1) rest at fault (one_more lines d.spelled h (may_stand lines line l d)) p.1
+    (sym (moved_on terms lines line l (number + 1) rest d) ∙ b)))

@@ -1,50 +1,53 @@
 -- The line of a step, written and read.
-use Rattle.std.proofs.Common.{◌≡◌, ℕ, ◌<◌, Bool, true, false, cond, ltb, not, ◌&&◌, List, refl, Result, Ok, Err, sym, ap, subst, ◌∙◌, arith}
+use Rattle.std.proofs.Common.{◌≡◌, ℕ, ◌+◌, ◌<◌, ◌≤◌, Bool, true, false, cond, ltb, leb, List, refl, Result, Ok, Err, sym, ap, ◌∙◌, arith}
 use Rattle.std.specs.List.{list_all, join_with_byte}
 use Rattle.std.specs.Str.{is_utf8}
+use Rattle.std.proofs.lemmas.Bool.{and_parts}
 use Rattle.std.proofs.lemmas.Bool.Decides.{nat_tests}
 use Rattle.std.proofs.lemmas.List.Splits.{join_with_byte-slice_split}
-use Rattle.mux_run.specs.Built.{is_built_step, is_offer_step}
-use Rattle.mux_run.specs.declared.steps.Step.{Step}
+use Rattle.std.proofs.lemmas.Str.{IsUtf8-from_is_utf8}
+use Rattle.text_words.specs.Reading.{words_of}
+use Rattle.text_words.specs.Written.{is_line_text, stands_in_line}
+use Rattle.text_words.proofs.ByteTests.{and_true}
+use Rattle.text_words.proofs.Joined.{joined-text, joined-words, line-words}
+use Rattle.script.specs.declared.line_step.LineStep.{LineStep}
 use Rattle.script.specs.declared.reason.ScriptReason.{ScriptReason}
 use Rattle.script.specs.declared.reason.ScriptReason.TheVariants as reason
-use Rattle.script.specs.Spelling.{step_words, step_text, is_spellable, most_steps, stands_in_line}
+use Rattle.script.specs.Limits.{most_steps, most_filled}
 use Rattle.script.specs.Lines.{TextLine}
-use Rattle.script.specs.Words.{words_of}
-use Rattle.script.specs.Steps.{on_ok, text_in, admitted, step_in, step_after}
+use Rattle.script.specs.Spelling.{StepLine, line_text, line_words, is_spellable, filled_by}
+use Rattle.script.specs.Table.{meaning}
+use Rattle.script.specs.Steps.{on_ok, text_in, filling, step_in, step_after}
 use Rattle.script.proofs.TextLemmas.{text_in-ended}
-use Rattle.script.proofs.Splits.{words_of-words, utf8_words}
-use Rattle.script.proofs.LineTexts.{lacks_feed}
-use Rattle.script.proofs.StepWords.{is_text_word, step_in-words, step_in-ok, built_has_word}
-use Rattle.script.proofs.PlainWords.{step_words-texts, texts_are_utf8, texts_are_words, words_are_texts, utf8_joined, feed_joined, words_of-step_text}
+use Rattle.script.proofs.LineTexts.{whole_line, lacks_feed}
+use Rattle.script.proofs.StepWords.{line_words-texts, step_in-words, step_in-ok}
 
--- the line of a step
-abbrev pub step_line : Step → TextLine
-step_line s = record { text = step_text s; has_end = true }
+pub line_text-text : (line : StepLine) → is_spellable line ≡ true → is_line_text (line_text line) ≡ true
+line_text-text line h = joined-text (line_words line) (line_words-texts line h)
 
-pub step_text-in_line : (s : Step) → is_spellable s ≡ true → list_all stands_in_line (step_text s) ≡ true
-step_text-in_line s h = feed_joined (step_words s) (texts_are_words (step_words s) (step_words-texts s h))
+pub line_text-words : (line : StepLine) → is_spellable line ≡ true → words_of (line_text line) ≡ line_words line
+line_text-words line h = joined-words _ _ (line_words-texts line h)
 
-text_in-step_line : (s : Step) → is_spellable s ≡ true → text_in (step_line s) ≡ Ok (step_text s)
-text_in-step_line s h = text_in-ended (step_line s) (utf8_joined (step_words s) (texts_are_utf8 (step_words s) (step_words-texts s h))) refl
+text_in-line : (line : StepLine) → is_spellable line ≡ true → text_in (whole_line (line_text line)) ≡ Ok (line_text line)
+text_in-line line h =
+    text_in-ended (whole_line (line_text line)) (IsUtf8-from_is_utf8 (line_text line) (and_parts (is_utf8 (line_text line)) (list_all stands_in_line (line_text line)) (line_text-text line h)).0) refl
 
-pub step_text-words : (s : Step) → is_spellable s ≡ true → words_of (step_text s) ≡ step_words s
-step_text-words s h = words_of-step_text s (texts_are_words (step_words s) (step_words-texts s h))
+step_in-line : (line : StepLine) → is_spellable line ≡ true → step_in (words_of (line_text line)) ≡ Ok (meaning line.word line.values)
+step_in-line line h = ap step_in (line_text-words line h) ∙ step_in-words line h
 
-step_in-step_text : (s : Step) → is_spellable s ≡ true → is_built_step s ≡ true → step_in (words_of (step_text s)) ≡ Ok s
-step_in-step_text s h b = ap step_in (step_text-words s h) ∙ step_in-words s h (built_has_word s b)
-
-admitted-ok : (offered : Bool) (s : Step) → is_built_step s ≡ true → (offered && is_offer_step s) ≡ false → admitted offered s ≡ Ok s
-unfolding admitted
-admitted-ok offered s b o = rw (b, o) refl
+filling-ok : (filled : ℕ) (l : LineStep) → filled + l.filled ≤ most_filled → filling filled l ≡ Ok l
+unfolding filling
+filling-ok filled l h =
+    let room : leb (filled + l.filled) most_filled ≡ true = grind (arith, nat_tests) in
+    rw room refl
 
 -- the line of a step that may stand there
-pub step_after-step_line : (count : ℕ) (offered : Bool) (s : Step) → is_spellable s ≡ true → is_built_step s ≡ true → (offered && is_offer_step s) ≡ false → count < most_steps
-    → step_after count offered (step_line s) ≡ Ok s
+pub step_after-line : (steps filled : ℕ) (line : StepLine) → is_spellable line ≡ true → steps < most_steps → filled + filled_by line ≤ most_filled
+    → step_after steps filled (whole_line (line_text line)) ≡ Ok (meaning line.word line.values)
 unfolding step_after
-step_after-step_line count offered s h b o few =
-    let room : ltb count most_steps ≡ true = grind (arith, nat_tests) in
-    rw (text_in-step_line s h, room, step_in-step_text s h b) (admitted-ok offered s b o)
+step_after-line steps filled line h few within =
+    let room : ltb steps most_steps ≡ true = grind (arith, nat_tests) in
+    rw (text_in-line line h, room, step_in-line line h) (filling-ok filled (meaning line.word line.values) within)
 
 pub on_ok-ok : {X Y : Type 0} (r : Result X ScriptReason) (f : X → Result Y ScriptReason) (y : Y) → on_ok r f ≡ Ok y → (x : X) × (r ≡ Ok x) × (f x ≡ Ok y)
 on_ok-ok (Ok x) f y h = (x, refl, h)
@@ -68,49 +71,48 @@ text_in-ok line text h =
     let same = p.2 in
     record { utf8 = rw same at (p.0); end = p.1; same = same }
 
-room_parts : (b : Bool) (r : Result Step ScriptReason) (s : Step) → cond b r (Err reason.TooManySteps) ≡ Ok s → (b ≡ true) × (r ≡ Ok s)
-room_parts true r s h = (refl, h)
-room_parts false r s h = cc h
-
-admitted_parts : (b o : Bool) (t s : Step) → cond (b && not o) (Ok t) (Err reason.NotBuilt) ≡ Ok s → (b ≡ true) × (o ≡ false) × (t ≡ s)
-admitted_parts true true t s h = cc h
-admitted_parts true false t s h = (refl, refl, cc)
-admitted_parts false o t s h = cc h
+room_parts : {X : Type 0} (b : Bool) (r : Result X ScriptReason) (full : ScriptReason) (x : X) → cond b r (Err full) ≡ Ok x → (b ≡ true) × (r ≡ Ok x)
+room_parts true r full x h = (refl, h)
+room_parts false r full x h = cc h
 
 -- the step of a line that was read
-pub record IsStepLine (count : ℕ) (offered : Bool) (line : TextLine) (s : Step) : Type 0 where
+pub record IsStepLine (steps filled : ℕ) (line : TextLine) (l : LineStep) : Type 0 where
+  pub spelled : StepLine
   pub end : line.has_end ≡ true
-  pub text : line.text ≡ step_text s
-  pub spellable : is_spellable s ≡ true
-  pub built : is_built_step s ≡ true
-  pub first_offer : (offered && is_offer_step s) ≡ false
-  pub few : count < most_steps
+  pub text : line.text ≡ line_text spelled
+  pub spellable : is_spellable spelled ≡ true
+  pub means : meaning spelled.word spelled.values ≡ l
+  pub few : steps < most_steps
+  pub within : filled + l.filled ≤ most_filled
 
-below : (count : ℕ) → ltb count most_steps ≡ true → count < most_steps
-below count h = grind (arith, nat_tests)
+below : (steps : ℕ) → ltb steps most_steps ≡ true → steps < most_steps
+below steps h = grind (arith, nat_tests)
 
-pub text_words : (text : List ℕ) → is_utf8 text ≡ true → list_all stands_in_line text ≡ true → list_all is_text_word (words_of text) ≡ true
-text_words text h g =
-    let P : List ℕ → Type 0 = λ x. is_utf8 x ≡ true in
-    words_are_texts (words_of text) (utf8_words (words_of text) (subst P (sym (join_with_byte-slice_split 32 text)) h)) (words_of-words text g)
+filling_parts : (filled : ℕ) (l m : LineStep) → filling filled l ≡ Ok m → (l ≡ m) × (filled + l.filled ≤ most_filled)
+unfolding filling
+filling_parts filled l m h =
+    let p = room_parts (leb (filled + l.filled) most_filled) (Ok l) reason.BadWord m h in
+    let fits = p.0 in
+    let given : Ok l ≡ Ok m = p.1 in
+    (cc, grind (arith, nat_tests))
 
-pub step_after-ok : (count : ℕ) (offered : Bool) (line : TextLine) (s : Step) → lacks_feed line ≡ true → step_after count offered line ≡ Ok s → IsStepLine count offered line s
-unfolding step_after admitted
-step_after-ok count offered line s lacks h =
-    let t = on_ok-ok (text_in line) _ s h in
+pub step_after-ok : (steps filled : ℕ) (line : TextLine) (l : LineStep) → lacks_feed line ≡ true → step_after steps filled line ≡ Ok l → IsStepLine steps filled line l
+unfolding step_after
+step_after-ok steps filled line l lacks h =
+    let t = on_ok-ok (text_in line) _ l h in
     let w = text_in-ok line t.0 t.1 in
-    let room = room_parts (ltb count most_steps) _ s t.2 in
-    let r = on_ok-ok (step_in (words_of t.0)) (admitted offered) s room.1 in
-    let a = admitted_parts (is_built_step r.0) (offered && is_offer_step r.0) r.0 s r.2 in
+    let room = room_parts (ltb steps most_steps) _ reason.TooManySteps l t.2 in
+    let r = on_ok-ok (step_in (words_of t.0)) (filling filled) l room.1 in
+    let f = filling_parts filled r.0 l r.2 in
+    let same : r.0 ≡ l = f.0 in
     let lacks_text : list_all stands_in_line t.0 ≡ true = rw (w.same) at lacks in
-    let read = step_in-ok (words_of t.0) r.0 (text_words t.0 w.utf8 lacks_text) r.1 in
-    let text : t.0 ≡ step_text r.0 = sym (join_with_byte-slice_split 32 t.0) ∙ ap (join_with_byte 32) read.0 in
-    let same : r.0 ≡ s = a.2 in
+    let read = step_in-ok (words_of t.0) r.0 (line-words t.0 (and_true (is_utf8 t.0) (list_all stands_in_line t.0) w.utf8 lacks_text)) r.1 in
     record {
+      spelled = read.line;
       end = w.end;
-      text = w.same ∙ text ∙ ap step_text same;
-      spellable = rw same at (read.1);
-      built = rw same at (a.0);
-      first_offer = rw same at (a.1);
-      few = below count room.0;
+      text = w.same ∙ (sym (join_with_byte-slice_split 32 t.0) ∙ ap (join_with_byte 32) read.is);
+      spellable = read.spellable;
+      means = read.means ∙ same;
+      few = below steps room.0;
+      within = rw same at (f.1);
     }

@@ -6,7 +6,7 @@ use Rattle.std.proofs.lemmas.Str.{IsUtf8-from_is_utf8, is_utf8-from_IsUtf8}
 use Rattle.script.specs.declared.reason.ScriptReason.TheVariants as reason
 use Rattle.script.specs.Lines.{TextLine}
 use Rattle.script.specs.Steps.{text_in}
-use Rattle.script.proofs.ByteTests.{not_true}
+use Rattle.text_words.proofs.ByteTests.{not_true}
 
 pub text_in-other : (line : TextLine) → ¬ (IsUtf8 line.text) → text_in line ≡ Err reason.NotUtf8
 unfolding text_in

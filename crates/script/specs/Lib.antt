@@ -1,6 +1,7 @@
+pub mod Limits
+pub mod Table
 pub mod Spelling
 pub mod Lines
-pub mod Words
 pub mod Steps
 pub mod Found
 pub mod Numbers

@@ -1,18 +1,17 @@
 //! The lines of a script's head.
 
-ghost use Rattle.std.specs.Prelude.{◌≡◌, map};
+ghost use Rattle.std.specs.Prelude.{◌≡◌, map, IfOk};
 ghost use Rattle.std.specs.Option.{ok_or};
 ghost use Rattle.script.specs.Given.{Gives, line_seen};
-ghost use Rattle.script.specs.Spelling.{side_word};
+ghost use Rattle.text_words.specs.Written.{side_word};
 ghost use Rattle.script.specs.Steps.{on_ok, text_in, format_in, version_in, nonce_of, nonce_line_in};
 
 use crate::fault::LineFault;
 use crate::lines::{Line, text};
 use crate::reason::ScriptReason;
-use crate::words;
 use mux_run::Side;
 use std::alloc::Global;
-use wire_base::Version;
+use wire_base::{OutOfMemory, Version};
 
 const BAD_HEAD: LineFault = LineFault::Refused(ScriptReason::BadHead);
 
@@ -46,22 +45,22 @@ pub fn nonce(alloc: Global, side: Side, line: &Line) -> Result<[u8; 16], LineFau
     ensures { Gives (λ n. n) result (on_ok (text_in (line_seen line.now)) (nonce_line_in side)) }
 {
     let text = text(line)?;
-    let words = words::words(alloc, text)?;
-    nonce_of(side, words.as_slice()).ok_or(BAD_HEAD)
+    let words = text_words::words(alloc, text)?;
+    nonce_of(alloc, side, words.as_slice())?.ok_or(BAD_HEAD)
 }
 
 /// The nonce of `side` from the words of its line.
 #[tactic(auto, unfolding(crate::specs::Steps::nonce_of))]
-fn nonce_of(side: Side, words: &[&str]) -> Option<[u8; 16]>
-    ensures { result ≡ nonce_of side (map (λ w. w.now) words.now) }
+fn nonce_of(alloc: Global, side: Side, words: &[&str]) -> Result<Option<[u8; 16]>, OutOfMemory>
+    ensures { IfOk result (λ o. o ≡ nonce_of side (map (λ w. w.now) words.now)) }
 {
     let [first, letter, digits] = words else {
-        return None;
+        return Ok(None);
     };
     if *first == "nonce" && *letter == letter_of(side) {
-        words::nonce(digits)
+        text_words::nonce(alloc, digits)
     } else {
-        None
+        Ok(None)
     }
 }
 

@@ -4,12 +4,12 @@
 mod fault;
 mod head;
 mod laws;
+mod line_step;
 mod lines;
 mod reading;
 mod reason;
 mod step_word;
 mod steps;
-mod words;
 
 pub use fault::ScriptFault;
 pub use laws::{bad_words_are_of_no_step, scripts_are_their_texts};

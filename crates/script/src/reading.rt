@@ -1,25 +1,28 @@
 //! Scripts from their bytes.
 
 ghost use Rattle.std.specs.Prelude.{◌≡◌, ◌+◌, ◌<◌, ◌≤◌, ℕ, List, [], true, length, IfOk, OnOk};
-ghost use Rattle.mux_run.specs.declared.steps.Step.{Step};
-ghost use Rattle.mux_run.specs.Built.{is_built_call, is_built_step, is_offer_step};
 ghost use Rattle.mux_run.specs.Run.{Terms, terms_of};
-ghost use Rattle.script.specs.Found.{script_in, version_from, nonces_from, nonce_b_from, steps_from, reads};
+ghost use Rattle.script.specs.Found.{script_in, version_from, nonces_from, nonce_b_from, steps_from, reads, IsScriptOf};
 ghost use Rattle.script.specs.Given.{Gives, Answers, line_seen, script_seen};
+ghost use Rattle.script.specs.Limits.{most_steps, most_filled};
 ghost use Rattle.script.specs.Lines.{lines_of};
-ghost use Rattle.script.specs.Spelling.{AreTerms, AreScripted, script_text, has_nonces, most_steps};
-ghost use Rattle.script.specs.Steps.{admitted, step_after};
+ghost use Rattle.script.specs.Spelling.{StepLine, AreTerms, AreScripted, script_text, steps_of, has_nonces};
+ghost use Rattle.script.specs.Steps.{filling, step_after};
 
 use crate::fault::{LineFault, ScriptFault};
+use crate::line_step::LineStep;
 use crate::lines::{Line, next_line, text};
 use crate::reason::ScriptReason;
-use crate::{head, steps, words};
-use mux_run::{Call, Side, Step, StepList};
+use crate::{head, steps};
+use mux_run::{Side, StepList};
 use std::alloc::Global;
 use wire_base::Version;
 
 /// The most steps that a script has.
 const MOST_STEPS: usize = 100_000;
+
+/// The most bytes that all lines with `fill` write together.
+const MOST_FILLED: u32 = 67_108_864;
 
 /// The number of the first line that is a step, where the head has no nonces.
 const FIRST_STEP_LINE: u64 = 3;
@@ -40,14 +43,12 @@ pub struct Script {
 pub fn read_script(alloc: Global, bytes: &[u8]) -> Result<Script, ScriptFault>
     ensures exact { Answers script_seen result (script_in bytes.now) }
 
-    // What is read is written so.
-    ensures text { IfOk result (λ s. bytes.now ≡ script_text (terms_of s.version s.nonces) s.steps) }
-    ensures scripted { IfOk result (λ s. AreScripted s.steps) }
-    ensures terms { IfOk result (λ s. AreTerms (terms_of s.version s.nonces)) }
+    // What is read is the text of a script that is written so.
+    ensures text { IfOk result (λ s. IsScriptOf bytes.now (terms_of s.version s.nonces) s.steps) }
 
     // What is written so is read, unless memory runs out.
-    ensures only { (terms : Terms) (steps : List Step) → AreTerms terms → AreScripted steps → bytes.now ≡ script_text terms steps
-        → Answers script_seen result (reads terms steps) }
+    ensures only { (terms : Terms) (lines : List StepLine) → AreTerms terms → AreScripted lines → bytes.now ≡ script_text terms lines
+        → Answers script_seen result (reads terms (steps_of lines)) }
 {
     read_lines(alloc, bytes)
 }
@@ -132,19 +133,19 @@ fn read_steps(
     bytes: &[u8],
 ) -> Result<Script, ScriptFault>
     requires { first ≤ 5 }
-    ensures { Answers script_seen result (steps_from (terms_of version nonces) [] first (lines_of bytes.now)) }
+    ensures { Answers script_seen result (steps_from (terms_of version nonces) [] 0 first (lines_of bytes.now)) }
 {
     let mut steps = StepList::new(alloc);
-    let mut offered = false;
+    let mut filled = 0;
     let mut number = first;
     let mut rest = bytes;
     while let Some(line) = next_line(rest) {
-        let step = match step_after(alloc, steps.len(), offered, &line) {
-            Ok(step) => step,
+        let line_step = match step_after(alloc, steps.len(), filled, &line) {
+            Ok(line_step) => line_step,
             Err(fault) => return Err(fault.at(number)),
         };
-        offered = offered || is_offer(&step);
-        steps.push(step)?;
+        filled += line_step.filled;
+        steps.push(line_step.step)?;
         number += 1;
         rest = line.rest;
     }
@@ -155,54 +156,31 @@ fn read_steps(
     })
 }
 
-/// The step of a line behind `count` steps, of which one is an offer where `offered` says so.
+/// The step of a line behind so many steps, which filled in so many bytes.
 #[tactic(auto, unfolding(crate::specs::Steps::step_after))]
-fn step_after(alloc: Global, count: usize, offered: bool, line: &Line) -> Result<Step, LineFault>
-    ensures exact { Gives (λ s. s) result (step_after count offered (line_seen line.now)) }
-    ensures few { OnOk result (count < most_steps) }
+fn step_after(alloc: Global, steps: usize, filled: u32, line: &Line) -> Result<LineStep, LineFault>
+    ensures exact { Gives (λ l. l) result (step_after steps filled (line_seen line.now)) }
+    ensures few { OnOk result (steps < most_steps) }
+    ensures within { IfOk result (λ l. filled + l.filled ≤ most_filled) }
 {
     let text = text(line)?;
-    if count >= MOST_STEPS {
+    if steps >= MOST_STEPS {
         return Err(LineFault::Refused(ScriptReason::TooManySteps));
     }
-    let words = words::words(alloc, text)?;
-    let step = steps::step(alloc, words.as_slice())?;
-    admitted(offered, step)
+    let words = text_words::words(alloc, text)?;
+    let line_step = steps::step(alloc, words.as_slice())?;
+    filling(filled, line_step)
 }
 
-/// The step, where it is built: one offer at most, by either side.
-#[tactic(auto, unfolding(crate::specs::Steps::admitted))]
-fn admitted(offered: bool, step: Step) -> Result<Step, LineFault>
-    ensures { Gives (λ s. s) result (admitted offered step) }
+/// The step of a line behind lines that filled in so many bytes, if that isn't too much together.
+#[tactic(auto, unfolding(crate::specs::Steps::filling))]
+fn filling(filled: u32, line_step: LineStep) -> Result<LineStep, LineFault>
+    ensures exact { Gives (λ l. l) result (filling filled line_step) }
+    ensures within { IfOk result (λ l. filled + l.filled ≤ most_filled) }
 {
-    if is_built(&step) && !(offered && is_offer(&step)) {
-        Ok(step)
+    if filled <= MOST_FILLED && line_step.filled <= MOST_FILLED - filled {
+        Ok(line_step)
     } else {
-        Err(LineFault::Refused(ScriptReason::NotBuilt))
+        Err(LineFault::Refused(ScriptReason::BadWord))
     }
-}
-
-fn is_built(step: &Step) -> bool
-    ensures { result ≡ is_built_step step.now }
-{
-    match step {
-        Step::Call(_, call) => is_built_call(call),
-        Step::Deliver(_, _) => true,
-        Step::End(_) => false,
-    }
-}
-
-fn is_built_call(call: &Call) -> bool
-    ensures { result ≡ is_built_call call.now }
-{
-    match call {
-        Call::Offer(_, _) | Call::Accept(_, _) | Call::Write(_, _) | Call::Read(_, _) => true,
-        Call::Complete(_) | Call::Terminate(_) => false,
-    }
-}
-
-fn is_offer(step: &Step) -> bool
-    ensures { result ≡ is_offer_step step.now }
-{
-    matches!(step, Step::Call(_, Call::Offer(_, _)))
 }

@@ -14,7 +14,7 @@ pub enum ScriptReason {
     BadWord,
     /// 93: the rest of the line isn't the JSON text that it has to be.
     BadJson,
-    /// 94: the step or a second offer isn't built.
+    /// 94: the line's first word is a step word of the format that the program has no step for yet.
     NotBuilt,
     /// 95: the line isn't UTF-8.
     NotUtf8,

@@ -1,17 +1,20 @@
 //! The words that steps begin with.
 
 ghost use Rattle.std.specs.Prelude.{◌≡◌};
-ghost use Rattle.script.specs.Steps.{step_word_in};
+ghost use Rattle.script.specs.Steps.{step_word_in, is_later};
 
-/// The first word of a step. `Later` is one whose step isn't built.
+/// The first word of a step.
 #[derive(Clone, Copy, Debug, PartialEq, Eq)]
 pub enum StepWord {
     Offer,
     Accept,
     Write,
+    Fill,
     Read,
+    Complete,
+    Terminate,
     Deliver,
-    Later,
+    End,
 }
 
 #[tactic(auto, unfolding(crate::specs::Steps::step_word_in))]
@@ -22,12 +25,22 @@ pub fn step_word(word: &str) -> Option<StepWord>
         "offer" => Some(StepWord::Offer),
         "accept" => Some(StepWord::Accept),
         "write" => Some(StepWord::Write),
+        "fill" => Some(StepWord::Fill),
         "read" => Some(StepWord::Read),
+        "complete" => Some(StepWord::Complete),
+        "terminate" => Some(StepWord::Terminate),
         "deliver" => Some(StepWord::Deliver),
-        "complete"
-        | "terminate"
-        | "fill"
-        | "attach"
+        "end" => Some(StepWord::End),
+        _ => None,
+    }
+}
+
+/// Whether the format has this step word and the program no step for it yet.
+pub fn is_later(word: &str) -> bool
+    ensures { result ≡ is_later word.now }
+{
+    match word {
+        "attach"
         | "request"
         | "notify"
         | "result"
@@ -42,8 +55,7 @@ pub fn step_word(word: &str) -> Option<StepWord>
         | "invoke"
         | "release"
         | "outcome"
-        | "forget"
-        | "end" => Some(StepWord::Later),
-        _ => None,
+        | "forget" => true,
+        _ => false,
     }
 }

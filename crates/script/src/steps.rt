@@ -1,105 +1,187 @@
 //! Steps from the words of their lines.
 
-ghost use Rattle.std.specs.Prelude.{◌≡◌, map};
-ghost use Rattle.std.specs.Option.{ok_or};
+ghost use Rattle.std.specs.Prelude.{◌≡◌, map, replicate, IfOk};
 ghost use Rattle.script.specs.Given.{Gives};
-ghost use Rattle.script.specs.Steps.{offer_in, accept_in, write_in, read_in, deliver_in, step_by, step_in};
+ghost use Rattle.script.specs.Table.{plain};
+ghost use Rattle.script.specs.Steps.{step_word_in, step_by, step_behind, step_in};
 
 use crate::fault::LineFault;
+use crate::line_step::LineStep;
 use crate::reason::ScriptReason;
-use crate::step_word::{StepWord, step_word};
-use crate::words;
+use crate::step_word::{StepWord, is_later, step_word};
 use mux_run::{Call, Step};
 use std::alloc::Global;
+use wire_base::{Blob, OutOfMemory};
 
 const BAD_WORD: LineFault = LineFault::Refused(ScriptReason::BadWord);
 
-#[tactic(auto, unfolding(crate::specs::Steps::offer_in))]
-fn offer(alloc: Global, words: &[&str]) -> Result<Step, LineFault>
-    ensures { Gives (λ s. s) result (ok_or (offer_in (map (λ w. w.now) words.now)) ScriptReason.BadWord) }
+/// The most bytes that one `fill` writes.
+const MOST_FILL: u32 = 1_000_000;
+
+fn plain(step: Step) -> LineStep
+    ensures { result ≡ plain step }
+{
+    LineStep { step, filled: 0 }
+}
+
+#[tactic(auto, unfolding(crate::specs::Steps::step_by))]
+fn offer(alloc: Global, words: &[&str]) -> Result<LineStep, LineFault>
+    ensures { Gives (λ s. s) result (step_by StepWord.Offer (map (λ w. w.now) words.now)) }
 {
     let [side, name, window] = words else {
         return Err(BAD_WORD);
     };
-    let side = words::side(side).ok_or(BAD_WORD)?;
-    let name = words::name(alloc, name)?.ok_or(BAD_WORD)?;
-    let window = words::number(window).ok_or(BAD_WORD)?;
-    Ok(Step::Call(side, Call::Offer(name, window)))
+    let side = text_words::side(side).ok_or(BAD_WORD)?;
+    let name = text_words::name(alloc, name)?.ok_or(BAD_WORD)?;
+    let window = text_words::number(window).ok_or(BAD_WORD)?;
+    Ok(plain(Step::Call(side, Call::Offer(name, window))))
 }
 
-#[tactic(auto, unfolding(crate::specs::Steps::accept_in))]
-fn accept(words: &[&str]) -> Result<Step, LineFault>
-    ensures { Gives (λ s. s) result (ok_or (accept_in (map (λ w. w.now) words.now)) ScriptReason.BadWord) }
+#[tactic(auto, unfolding(crate::specs::Steps::step_by))]
+fn accept(words: &[&str]) -> Result<LineStep, LineFault>
+    ensures { Gives (λ s. s) result (step_by StepWord.Accept (map (λ w. w.now) words.now)) }
 {
     let [side, channel, window] = words else {
         return Err(BAD_WORD);
     };
-    let side = words::side(side).ok_or(BAD_WORD)?;
-    let channel = words::channel(side, channel).ok_or(BAD_WORD)?;
-    let window = words::number(window).ok_or(BAD_WORD)?;
-    Ok(Step::Call(side, Call::Accept(channel, window)))
+    let side = text_words::side(side).ok_or(BAD_WORD)?;
+    let channel = text_words::channel(channel).ok_or(BAD_WORD)?;
+    let window = text_words::number(window).ok_or(BAD_WORD)?;
+    Ok(plain(Step::Call(side, Call::Accept(channel.key(side), window))))
 }
 
-#[tactic(auto, unfolding(crate::specs::Steps::write_in))]
-fn write(alloc: Global, words: &[&str]) -> Result<Step, LineFault>
-    ensures { Gives (λ s. s) result (ok_or (write_in (map (λ w. w.now) words.now)) ScriptReason.BadWord) }
+#[tactic(auto, unfolding(crate::specs::Steps::step_by))]
+fn write(alloc: Global, words: &[&str]) -> Result<LineStep, LineFault>
+    ensures { Gives (λ s. s) result (step_by StepWord.Write (map (λ w. w.now) words.now)) }
 {
     let [side, channel, bytes] = words else {
         return Err(BAD_WORD);
     };
-    let side = words::side(side).ok_or(BAD_WORD)?;
-    let channel = words::channel(side, channel).ok_or(BAD_WORD)?;
-    let bytes = words::bytes(alloc, bytes)?.ok_or(BAD_WORD)?;
-    Ok(Step::Call(side, Call::Write(channel, bytes)))
+    let side = text_words::side(side).ok_or(BAD_WORD)?;
+    let channel = text_words::channel(channel).ok_or(BAD_WORD)?;
+    let bytes = text_words::bytes(alloc, bytes)?.ok_or(BAD_WORD)?;
+    Ok(plain(Step::Call(side, Call::Write(channel.key(side), bytes))))
 }
 
-#[tactic(auto, unfolding(crate::specs::Steps::read_in))]
-fn read(words: &[&str]) -> Result<Step, LineFault>
-    ensures { Gives (λ s. s) result (ok_or (read_in (map (λ w. w.now) words.now)) ScriptReason.BadWord) }
+/// A byte, so many times.
+fn repeated(alloc: Global, byte: u8, count: u32) -> Result<Blob, OutOfMemory>
+    ensures { IfOk result (λ bytes. bytes ≡ replicate count byte) }
+{
+    let bytes = vec![in alloc; byte; count as usize]?;
+    Blob::from_bytes(alloc, &bytes)
+}
+
+#[tactic(auto, unfolding(crate::specs::Steps::step_by))]
+fn fill(alloc: Global, words: &[&str]) -> Result<LineStep, LineFault>
+    ensures { Gives (λ s. s) result (step_by StepWord.Fill (map (λ w. w.now) words.now)) }
+{
+    let [side, channel, count, byte] = words else {
+        return Err(BAD_WORD);
+    };
+    let side = text_words::side(side).ok_or(BAD_WORD)?;
+    let channel = text_words::channel(channel).ok_or(BAD_WORD)?;
+    let filled = text_words::limited_number(MOST_FILL, count).ok_or(BAD_WORD)?;
+    let byte = text_words::byte(alloc, byte)?.ok_or(BAD_WORD)?;
+    let bytes = repeated(alloc, byte, filled)?;
+    let step = Step::Call(side, Call::Write(channel.key(side), bytes));
+    Ok(LineStep { step, filled })
+}
+
+#[tactic(auto, unfolding(crate::specs::Steps::step_by))]
+fn read(words: &[&str]) -> Result<LineStep, LineFault>
+    ensures { Gives (λ s. s) result (step_by StepWord.Read (map (λ w. w.now) words.now)) }
 {
     let [side, channel, max] = words else {
         return Err(BAD_WORD);
     };
-    let side = words::side(side).ok_or(BAD_WORD)?;
-    let channel = words::channel(side, channel).ok_or(BAD_WORD)?;
-    let max = words::number(max).ok_or(BAD_WORD)?;
-    Ok(Step::Call(side, Call::Read(channel, max)))
+    let side = text_words::side(side).ok_or(BAD_WORD)?;
+    let channel = text_words::channel(channel).ok_or(BAD_WORD)?;
+    let max = text_words::number(max).ok_or(BAD_WORD)?;
+    Ok(plain(Step::Call(side, Call::Read(channel.key(side), max))))
 }
 
-#[tactic(auto, unfolding(crate::specs::Steps::deliver_in))]
-fn deliver(words: &[&str]) -> Result<Step, LineFault>
-    ensures { Gives (λ s. s) result (ok_or (deliver_in (map (λ w. w.now) words.now)) ScriptReason.BadWord) }
+#[tactic(auto, unfolding(crate::specs::Steps::step_by))]
+fn complete(words: &[&str]) -> Result<LineStep, LineFault>
+    ensures { Gives (λ s. s) result (step_by StepWord.Complete (map (λ w. w.now) words.now)) }
+{
+    let [side, channel] = words else {
+        return Err(BAD_WORD);
+    };
+    let side = text_words::side(side).ok_or(BAD_WORD)?;
+    let channel = text_words::channel(channel).ok_or(BAD_WORD)?;
+    Ok(plain(Step::Call(side, Call::Complete(channel.key(side)))))
+}
+
+#[tactic(auto, unfolding(crate::specs::Steps::step_by))]
+fn terminate(words: &[&str]) -> Result<LineStep, LineFault>
+    ensures { Gives (λ s. s) result (step_by StepWord.Terminate (map (λ w. w.now) words.now)) }
+{
+    let [side, channel] = words else {
+        return Err(BAD_WORD);
+    };
+    let side = text_words::side(side).ok_or(BAD_WORD)?;
+    let channel = text_words::channel(channel).ok_or(BAD_WORD)?;
+    Ok(plain(Step::Call(side, Call::Terminate(channel.key(side)))))
+}
+
+#[tactic(auto, unfolding(crate::specs::Steps::step_by))]
+fn deliver(words: &[&str]) -> Result<LineStep, LineFault>
+    ensures { Gives (λ s. s) result (step_by StepWord.Deliver (map (λ w. w.now) words.now)) }
 {
     let [side, count] = words else {
         return Err(BAD_WORD);
     };
-    let side = words::side(side).ok_or(BAD_WORD)?;
-    let count = words::count(count).ok_or(BAD_WORD)?;
-    Ok(Step::Deliver(side, count))
+    let side = text_words::side(side).ok_or(BAD_WORD)?;
+    let count = text_words::count(count).ok_or(BAD_WORD)?;
+    Ok(plain(Step::Deliver(side, count)))
 }
 
-/// The step of a step word and the words after it.
-fn step_by(alloc: Global, first: Option<StepWord>, words: &[&str]) -> Result<Step, LineFault>
-    ensures { Gives (λ s. s) result (step_by first (map (λ w. w.now) words.now)) }
+#[tactic(auto, unfolding(crate::specs::Steps::step_by))]
+fn end(words: &[&str]) -> Result<LineStep, LineFault>
+    ensures { Gives (λ s. s) result (step_by StepWord.End (map (λ w. w.now) words.now)) }
 {
-    match first {
-        Some(StepWord::Offer) => offer(alloc, words),
-        Some(StepWord::Accept) => accept(words),
-        Some(StepWord::Write) => write(alloc, words),
-        Some(StepWord::Read) => read(words),
-        Some(StepWord::Deliver) => deliver(words),
-        Some(StepWord::Later) => Err(LineFault::Refused(ScriptReason::NotBuilt)),
+    let [side] = words else {
+        return Err(BAD_WORD);
+    };
+    let side = text_words::side(side).ok_or(BAD_WORD)?;
+    Ok(plain(Step::End(side)))
+}
+
+/// What a step word and the words behind it mean.
+fn step_by(alloc: Global, word: StepWord, words: &[&str]) -> Result<LineStep, LineFault>
+    ensures { Gives (λ s. s) result (step_by word (map (λ w. w.now) words.now)) }
+{
+    match word {
+        StepWord::Offer => offer(alloc, words),
+        StepWord::Accept => accept(words),
+        StepWord::Write => write(alloc, words),
+        StepWord::Fill => fill(alloc, words),
+        StepWord::Read => read(words),
+        StepWord::Complete => complete(words),
+        StepWord::Terminate => terminate(words),
+        StepWord::Deliver => deliver(words),
+        StepWord::End => end(words),
+    }
+}
+
+/// What a first word and the words behind it mean.
+fn step_behind(alloc: Global, first: &str, words: &[&str]) -> Result<LineStep, LineFault>
+    ensures { Gives (λ s. s) result (step_behind first.now (step_word_in first.now) (map (λ w. w.now) words.now)) }
+{
+    match step_word(first) {
+        Some(word) => step_by(alloc, word, words),
+        None if is_later(first) => Err(LineFault::Refused(ScriptReason::NotBuilt)),
         None => Err(LineFault::Refused(ScriptReason::UnknownStep)),
     }
 }
 
-/// The step of a line's words.
+/// What a line's words mean.
 #[tactic(auto, unfolding(crate::specs::Steps::step_in))]
-pub fn step(alloc: Global, words: &[&str]) -> Result<Step, LineFault>
+pub fn step(alloc: Global, words: &[&str]) -> Result<LineStep, LineFault>
     ensures { Gives (λ s. s) result (step_in (map (λ w. w.now) words.now)) }
 {
     match words {
-        [first, words @ ..] => step_by(alloc, step_word(first), words),
+        [first, words @ ..] => step_behind(alloc, first, words),
         [] => Err(LineFault::Refused(ScriptReason::UnknownStep)),
     }
 }

@@ -1,12 +1,12 @@
-//! The words of a line, and what each stands for.
+//! Words of a line, and what each is read as. A word that isn't of its form is read as nothing.
 
 ghost use Rattle.std.specs.Prelude.{◌≡◌, map, IfOk, Some, None};
-ghost use Rattle.script.specs.Words.{words_of, side_in, number_in, channel_in, name_in, bytes_in, nonce_in, count_in, has_other_front, front_in, is_capital};
 ghost use Rattle.std.specs.Option.{option_map};
 ghost use Rattle.std.specs.List.{list_any};
+ghost use Rattle.text_words.specs.Reading.{words_of, side_in, number_in, number_up_to, channel_in, name_in, bytes_in, byte_in, nonce_in, count_in, has_other_front, front_in, is_capital};
 
-use hex::{FromHex, FromHexError};
-use mux_items::ChannelKey;
+use crate::channel_name::ChannelName;
+use hex::FromHexError;
 use mux_run::Side;
 use std::alloc::Global;
 use wire_base::{Blob, OutOfMemory, Text};
@@ -18,7 +18,7 @@ pub fn words(alloc: Global, line: &str) -> Result<Vec<&str>, OutOfMemory>
     Ok(line.split(' ').collect(alloc)?)
 }
 
-#[tactic(auto, unfolding(crate::specs::Words::side_in))]
+#[tactic(auto, unfolding(crate::specs::Reading::side_in))]
 pub fn side(word: &str) -> Option<Side>
     ensures { result ≡ side_in word.now }
 {
@@ -29,7 +29,7 @@ pub fn side(word: &str) -> Option<Side>
     }
 }
 
-#[tactic(auto, using(crate::proofs::NumberLemmas::numbers))]
+#[tactic(auto, using(crate::proofs::Numbers::numbers))]
 pub fn number(word: &str) -> Option<u32>
     ensures { result ≡ number_in word.now }
 {
@@ -51,7 +51,16 @@ fn begins_no_number(word: &str) -> bool
     }
 }
 
-#[tactic(auto, unfolding(crate::specs::Words::name_in))]
+/// A number that is at most the limit.
+#[tactic(auto, unfolding(crate::specs::Reading::number_up_to))]
+pub fn limited_number(limit: u32, word: &str) -> Option<u32>
+    ensures { result ≡ number_up_to limit word.now }
+{
+    let number = number(word)?;
+    if number <= limit { Some(number) } else { None }
+}
+
+#[tactic(auto, unfolding(crate::specs::Reading::name_in))]
 pub fn name(alloc: Global, word: &str) -> Result<Option<Text>, OutOfMemory>
     ensures { IfOk result (λ o. o ≡ name_in word.now) }
 {
@@ -72,15 +81,13 @@ fn front(word: &str) -> Option<(Side, &str)>
     }
 }
 
-/// A channel as `side` names it.
-#[tactic(auto, unfolding(crate::specs::Words::channel_in))]
-pub fn channel(side: Side, word: &str) -> Option<ChannelKey>
-    ensures { result ≡ channel_in side word.now }
+#[tactic(auto, unfolding(crate::specs::Reading::channel_in))]
+pub fn channel(word: &str) -> Option<ChannelName>
+    ensures { result ≡ channel_in word.now }
 {
     let (offering, digits) = front(word)?;
     let id = u64::from(number(digits)?);
-    let own = offering == side;
-    Some(ChannelKey { id, own })
+    Some(ChannelName { offering, id })
 }
 
 #[tactic(auto, using(crate::proofs::HexWords::hex_words))]
@@ -100,24 +107,39 @@ pub fn bytes(alloc: Global, word: &str) -> Result<Option<Blob>, OutOfMemory>
     }
 }
 
-/// A nonce, whose sixteen bytes have two digits each.
-#[tactic(auto, using(crate::proofs::NonceWords::nonces))]
-pub fn nonce(word: &str) -> Option<[u8; 16]>
-    ensures { result ≡ nonce_in word.now }
-{
-    if has_capital(word) {
-        return None;
-    }
-    <[u8; 16] as FromHex>::from_hex(word).ok()
-}
-
 fn has_capital(word: &str) -> bool
     ensures { result ≡ list_any is_capital word.now }
 {
     word.as_bytes().iter().any(|byte| byte.is_ascii_uppercase())
 }
 
-#[tactic(auto, unfolding(crate::specs::Words::count_in))]
+/// One byte, in two digits.
+#[tactic(auto, unfolding(crate::specs::Reading::byte_in))]
+pub fn byte(alloc: Global, word: &str) -> Result<Option<u8>, OutOfMemory>
+    ensures { IfOk result (λ o. o ≡ byte_in word.now) }
+{
+    let Some(bytes) = bytes(alloc, word)? else {
+        return Ok(None);
+    };
+    match bytes.as_bytes() {
+        [byte] => Ok(Some(*byte)),
+        _ => Ok(None),
+    }
+}
+
+/// A nonce, whose sixteen bytes have two digits each.
+#[tactic(auto, unfolding(crate::specs::Reading::nonce_in))]
+pub fn nonce(alloc: Global, word: &str) -> Result<Option<[u8; 16]>, OutOfMemory>
+    ensures { IfOk result (λ o. o ≡ nonce_in word.now) }
+{
+    let Some(bytes) = bytes(alloc, word)? else {
+        return Ok(None);
+    };
+    Ok(<[u8; 16]>::try_from(bytes.as_bytes()).ok())
+}
+
+/// A number, or `all`, which is read as the greatest count.
+#[tactic(auto, unfolding(crate::specs::Reading::count_in))]
 pub fn count(word: &str) -> Option<u64>
     ensures { result ≡ count_in word.now }
 {

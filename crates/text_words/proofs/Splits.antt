@@ -6,9 +6,9 @@ use Rattle.std.specs.Str.{is_utf8}
 use Rattle.std.proofs.lemmas.Bool.{and_parts}
 use Rattle.std.proofs.lemmas.List.{take_at, drop_at, get_or_at, drop-drop}
 use Rattle.std.proofs.lemmas.Str.{IsUtf8-take, IsUtf8-drop, IsUtf8-from_is_utf8, is_utf8-from_IsUtf8, IsCharBoundary-before_ascii, IsCharBoundary-after_ascii}
-use Rattle.script.specs.Spelling.{stands_in_word, stands_in_line}
-use Rattle.script.specs.Words.{words_of}
-use Rattle.script.proofs.ByteTests.{not_parts, tested}
+use Rattle.text_words.specs.Written.{stands_in_word, stands_in_line}
+use Rattle.text_words.specs.Reading.{words_of}
+use Rattle.text_words.proofs.ByteTests.{not_parts, tested}
 
 -- a list of bytes that is one word or empty
 abbrev pub is_word : List ℕ → Bool

@@ -7,8 +7,8 @@ use Rattle.std.specs.Str.Parse.{digits_value, AllDigits, ParsesUnsigned}
 use Rattle.std.proofs.lemmas.Str.Parse.{IsNumeralModel, numerals_by_value, tells_digits, parse_plain}
 use Rattle.std.proofs.lemmas.Fmt.{decimal_nonempty, first_decimal, decimal_digit, decimal-digits_value, digits_decimal, digits_value-decimal}
 use Rattle.std.proofs.lemmas.Bool.Decides.{nat_tests}
-use Rattle.script.proofs.ByteTests.{bytes_eq-same, same_from_bytes_eq}
-use Rattle.script.specs.Words.{number_in, has_other_front}
+use Rattle.text_words.proofs.ByteTests.{bytes_eq-same, same_from_bytes_eq}
+use Rattle.text_words.specs.Reading.{number_in, has_other_front}
 
 pub own : IsNumeralModel (AllDigits 10) (digits_value 10)
 own = numerals_by_value (AllDigits 10) tells_digits

@@ -1,7 +1,7 @@
 use Rattle.std.proofs.Common.{lit<, sym}
 use Rattle.std.proofs.lemmas.Str.Pattern.{strip_prefix_char}
-use Rattle.script.proofs.FrontLemmas.{front_in-a, front_in-b, front_in-none}
-use Rattle.script.proofs.words.front.Goals as goal
+use Rattle.text_words.proofs.Fronts.{front_in-a, front_in-b, front_in-none}
+use Rattle.text_words.proofs.read.front.Goals as goal
 
 pub returns-in-Some : goal.returns-in-Some
 returns-in-Some c =

@@ -9,9 +9,9 @@ use Rattle.std.proofs.lemmas.List.{get_or_past}
 use Rattle.hex.specs.Hex.{IsBytes, decode_of, decode_pairs, digit_or_error, hex_digit_value, encode_lower, encode_with, lower_digits, pair_value, value_at, ◌>>=◌}
 use Rattle.hex.specs.declared.error.FromHexError.{FromHexError}
 use Rattle.hex.proofs.HexLemmas.{decode_of-encode_lower, decode_pairs-ok, length-encode_with}
-use Rattle.script.specs.Spelling.{hyphen, bytes_word}
-use Rattle.script.specs.Words.{bytes_in, is_capital, if_written}
-use Rattle.script.proofs.ByteTests.{bytes_eq-same, same_from_bytes_eq, or_false, not_true, tested}
+use Rattle.text_words.specs.Written.{hyphen, bytes_word}
+use Rattle.text_words.specs.Reading.{bytes_in, is_capital, if_written}
+use Rattle.text_words.proofs.ByteTests.{bytes_eq-same, same_from_bytes_eq, or_false, not_true, tested}
 
 -- the digit of a value below 16
 abbrev pub glyph : ℕ → ℕ

@@ -1,14 +1,14 @@
--- What a word of a script stands for.
+-- What a word of a script is read as.
 use Rattle.std.specs.Prelude.{ℕ, nat_lt, nat_le, ◌==◌, List, [], ◌∷◌, Bool, true, false, ◌||◌, ◌&&◌, length, slice_index, Option, Some, None, option_and_then, if◌then◌else◌, codes, decimal}
 use Rattle.std.specs.List.{slice_split}
 use Rattle.std.specs.Result.{result_ok}
 use Rattle.std.specs.Str.{bytes_eq}
 use Rattle.std.specs.Str.Parse.{digits_value}
 use Rattle.hex.specs.Hex.{decode_of}
-use Rattle.mux_items.specs.declared.channel.ChannelKey.{ChannelKey}
 use Rattle.mux_run.specs.declared.steps.Side.{Side}
 use Rattle.mux_run.specs.declared.steps.Side.TheVariants.{A, B}
-use Rattle.script.specs.Spelling.{is_number, hyphen, bytes_word, everything}
+use Rattle.text_words.specs.declared.channel_name.ChannelName.{ChannelName}
+use Rattle.text_words.specs.Written.{is_number, hyphen, bytes_word, everything}
 
 -- what the next part makes of the value, where there is one
 infixl 10 ◌>>=◌
@@ -31,36 +31,45 @@ side_in word = if bytes_eq word (codes "A") then Some A else if bytes_eq word (c
 unfoldable pub number_in : List ℕ → Option ℕ
 number_in word = if is_number (digits_value 10 word) then if_written decimal word (digits_value 10 word) else None
 
+-- such a number, if it is at most this limit
+unfoldable pub number_up_to : ℕ → List ℕ → Option ℕ
+number_up_to limit word = do
+  n ← number_in word
+  if nat_le n limit then Some n else None
+
 -- a sign stands in front, or a zero that isn't all
 abbrev pub has_other_front : List ℕ → Bool
 has_other_front word = slice_index word 0 == 43 || (slice_index word 0 == 48 && nat_lt 1 (length word))
-
--- whether both are one side
-abbrev pub is_same_side : Side → Side → Bool
-is_same_side A A = true
-is_same_side A B = false
-is_same_side B A = false
-is_same_side B B = true
 
 -- the side that the first letter names, and what follows it
 unfoldable pub front_in : List ℕ → Option (Side × List ℕ)
 front_in [] = None
 front_in (letter ∷ digits) = side_in (letter ∷ []) >>= λ side. Some (side, digits)
 
--- a channel as this side names it
-unfoldable pub channel_in : Side → List ℕ → Option ChannelKey
-channel_in side word = do
+-- a channel: the side that offered it and its id
+unfoldable pub channel_in : List ℕ → Option ChannelName
+channel_in word = do
   front ← front_in word
   id ← number_in front.1
-  Some (record { id = id; own = is_same_side front.0 side })
+  Some (record { offering = front.0; id = id })
 
 -- any word but the hyphen is itself a name
 unfoldable pub name_in : List ℕ → Option (List ℕ)
 name_in word = if bytes_eq word hyphen then Some [] else if bytes_eq word [] then None else Some word
 
--- hex digits in lower case, two for each byte
+-- hex digits in lower case, two for each byte, or the hyphen
 unfoldable pub bytes_in : List ℕ → Option (List ℕ)
 bytes_in word = if bytes_eq word hyphen then Some [] else (result_ok (decode_of word) >>= if_written bytes_word word)
+
+-- the byte of a list of one
+abbrev pub only_byte : List ℕ → Option ℕ
+only_byte [] = None
+only_byte (b ∷ []) = Some b
+only_byte (b ∷ c ∷ bs) = None
+
+-- two hex digits in lower case
+unfoldable pub byte_in : List ℕ → Option ℕ
+byte_in word = bytes_in word >>= only_byte
 
 -- hex digits in lower case, two for each of sixteen bytes
 unfoldable pub nonce_in : List ℕ → Option (List ℕ)

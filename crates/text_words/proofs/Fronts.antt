@@ -2,7 +2,7 @@
 use Rattle.std.proofs.Common.{◌≡◌, ◌≢◌, ℕ, List, [], ◌∷◌, true, false, refl, Some, None, eqb, ◌&&◌, ap, arith}
 use Rattle.std.proofs.lemmas.Bool.Decides.{nat_tests}
 use Rattle.mux_run.specs.declared.steps.Side.TheVariants.{A, B}
-use Rattle.script.specs.Words.{front_in, side_in}
+use Rattle.text_words.specs.Reading.{front_in, side_in}
 
 pub front_in-a : (word digits : List ℕ) → word ≡ 65 ∷ digits → front_in word ≡ Some (A, digits)
 unfolding front_in side_in

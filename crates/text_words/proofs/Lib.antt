@@ -1,0 +1,9 @@
+pub mod ByteTests
+pub mod Numbers
+pub mod HexWords
+pub mod Fronts
+pub mod Splits
+pub mod Values
+pub mod Texts
+pub mod FormLaws
+pub mod Joined

@@ -1,0 +1,14 @@
+//! The words of scripts and reports: how each is written, and what each is read as.
+#![tactic(auto)]
+
+mod channel_name;
+mod laws;
+mod push;
+mod read;
+
+pub use channel_name::{ChannelName, other_side};
+pub use laws::words_are_read_as_written;
+pub use push::{
+    push_bytes, push_channel, push_decimal, push_hex, push_line_feed, push_side, push_text,
+};
+pub use read::{byte, bytes, channel, count, limited_number, name, nonce, number, side, words};
