@@ -1,0 +1,14 @@
+pub mod Stable
+pub mod Resting
+pub mod Answering
+pub mod Paging
+pub mod Drawing
+pub mod Fitting
+pub mod Settling
+mod Worked
+mod WorkedExtensions
+mod WorkedMessages
+mod WorkedRefusals
+pub mod Understanding
+pub mod Reading
+pub mod Writing

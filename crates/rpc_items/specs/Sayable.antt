@@ -1,0 +1,20 @@
+-- What laws say of messages that are written as values.
+use Rattle.std.specs.Prelude.{◌≡◌, true, Option, Some, None}
+use Rattle.wire_base.specs.declared.text.Id.{Id}
+use Rattle.rpc_items.specs.declared.messages.Message.{Message}
+use Rattle.rpc_items.specs.declared.messages.Message.TheVariants.{Request, Notification}
+use Rattle.rpc_items.specs.declared.messages.Message.TheVariants as message
+use Rattle.rpc_items.specs.Ids.{is_id_number}
+use Rattle.rpc_items.specs.Fitting.{IsNamed}
+
+-- an id, where there is one, that a value can tell
+abbrev pub IsNamedIf : Option Id → Type 0
+IsNamedIf (Some id) = IsNamed id
+IsNamedIf None = Unit {0}
+
+-- a message whose id and code a value can tell
+abbrev pub IsSayable : Message → Type 0
+IsSayable (Request id method params) = IsNamed id
+IsSayable (Notification method params) = Unit {0}
+IsSayable (message.Result id value) = IsNamed id
+IsSayable (message.Error id code text more) = IsNamedIf id × (is_id_number code ≡ true)
