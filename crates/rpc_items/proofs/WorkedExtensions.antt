@@ -311,6 +311,53 @@ says_proxy = refl
 hands_back : said (Did (Ask work (arguments.List (arg.Handed 1 ∷ [])) Plain)) (heard ∷ []) ≡ Request one work (params.List (map ((codes "__jsonrpc_marshaled", number 0) ∷ (codes "handle", number 1) ∷ []) ∷ [])) ∷ []
 hands_back = refl
 
+-- objects are adopted where they stand whole, with a lifetime that can end, and the first offer counts
+
+abbrev offers : List ℕ → Tree
+offers lifetime = map ((codes "__jsonrpc_marshaled", number 1) ∷ (codes "handle", number 7) ∷ (codes "lifetime", tree.words lifetime) ∷ [])
+
+abbrev told : Tree → RpcItem
+told value = Got 0 (Notification work (params.List (value ∷ [])))
+
+told_explicit : is_live (peer_key 7) (told (offers (codes "explicit")) ∷ []) ≡ true
+told_explicit = refl
+
+told_for_a_call : is_live (peer_key 7) (told (offers (codes "call")) ∷ []) ≡ false
+told_for_a_call = refl
+
+told_for_ever : is_live (peer_key 7) (told (offers (codes "ever")) ∷ []) ≡ false
+told_for_ever = refl
+
+told_no_lifetime : is_live (peer_key 7) (told (map ((codes "handle", number 7) ∷ (codes "__jsonrpc_marshaled", number 1) ∷ [])) ∷ []) ≡ true
+told_no_lifetime = refl
+
+told_within : is_live (peer_key 7) (told (array (offers (codes "explicit") ∷ [])) ∷ []) ≡ false
+told_within = refl
+
+told_named : is_live (peer_key 7) (Got 0 (Notification work (named work (offers (codes "explicit")))) ∷ []) ≡ true
+told_named = refl
+
+handed_back : is_live (peer_key 7) (told (map ((codes "__jsonrpc_marshaled", number 0) ∷ (codes "handle", number 7) ∷ [])) ∷ []) ≡ false
+handed_back = refl
+
+told_by_extension : is_live (peer_key 7) (Got 0 (Notification (codes "$/work") (params.List (offers (codes "explicit") ∷ []))) ∷ []) ≡ false
+told_by_extension = refl
+
+abbrev results : Tree → RpcItem
+results value = Got 9 (message.Result one value)
+
+result_explicit : is_live (peer_key 7) (results (offers (codes "explicit")) ∷ asking ∷ []) ≡ true
+result_explicit = refl
+
+result_for_a_call : is_live (peer_key 7) (results (offers (codes "call")) ∷ asking ∷ []) ≡ false
+result_for_a_call = refl
+
+stray_result : is_live (peer_key 7) (results (offers (codes "explicit")) ∷ replied ∷ asking ∷ []) ≡ false
+stray_result = refl
+
+first_offer : is_live (peer_key 1) (answering ∷ told (map ((codes "__jsonrpc_marshaled", number 1) ∷ (codes "handle", number 1) ∷ [])) ∷ heard ∷ []) ≡ false
+first_offer = refl
+
 -- a handle that both sides release, with their releases crossing
 
 abbrev releases_own : RpcItem
