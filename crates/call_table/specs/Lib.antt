@@ -1,0 +1,4 @@
+pub mod Codes
+pub mod Table
+pub mod Replies
+pub mod Stands

@@ -1,0 +1,119 @@
+-- What a table keeps, and what its calls make of it.
+use Rattle.std.specs.Prelude.{ℕ, zero, suc, ◌-◌, pos, List, [], ◌∷◌, ◌++◌, length, Bool, true, false, not, ◌&&◌, filter, set, is_none, slice_get, if◌then◌else◌, Option, Some, None}
+use Rattle.std.specs.List.{list_any}
+use Rattle.wire_base.specs.declared.text.Id.{Id}
+use Rattle.wire_base.specs.declared.text.Id.TheVariants.{Number}
+use Rattle.rpc_items.specs.declared.calls.Expect.{Expect}
+use Rattle.rpc_items.specs.declared.calls.Outcome.{Outcome}
+use Rattle.rpc_items.specs.Ids.{same_id}
+use Rattle.rpc_items.specs.Drawn.{with_number}
+use Rattle.rpc_items.specs.Outcomes.{Look, Known, NotYet, NoRequest}
+use Rattle.call_table.specs.declared.entry.Entry.{Entry}
+use Rattle.call_table.specs.declared.entry.Kept.{Kept}
+use Rattle.call_table.specs.declared.entry.Kept.TheVariants.{Waiting, Answered, Forgotten}
+use Rattle.call_table.specs.declared.answers.Look as rust_look
+use Rattle.call_table.specs.declared.answers.Look.TheVariants as answers
+use Rattle.call_table.specs.declared.answers.Settled.{Settled}
+use Rattle.call_table.specs.declared.answers.Settled.TheVariants.{First, Stray}
+
+-- own requests in the order of their numbers, what becomes of those that have no response, and the ids of the peer's
+-- requests that wait
+pub record TableValue : Type 0 where
+  pub requests : List Entry
+  pub rest : Option Outcome
+  pub waiting : List Id
+
+-- a table with nothing in it
+abbrev pub empty : TableValue
+empty = record { requests = []; rest = None; waiting = [] }
+
+-- whether no response came
+abbrev pub is_waiting_kept : Kept → Bool
+is_waiting_kept Waiting = true
+is_waiting_kept kept = false
+
+-- whether there is a request, and it has no response
+abbrev pub waits_for : Option Entry → Bool
+waits_for (Some entry) = is_waiting_kept entry.kept
+waits_for None = false
+
+-- the own request without a response that an id names, where one can come
+abbrev pub named_in : Id → TableValue → Option ℕ
+named_in (Number (pos n)) table = if is_none table.rest && waits_for (with_number n table.requests) then Some n else None
+named_in id table = None
+
+-- what a response is that names this request
+abbrev pub settled_by : Option ℕ → Option Entry → Settled
+settled_by (Some n) (Some entry) = First n entry.expect
+settled_by n entry = Stray
+
+-- the request with a number that there may be
+abbrev pub entry_of : Option ℕ → TableValue → Option Entry
+entry_of (Some n) table = with_number n table.requests
+entry_of None table = None
+
+-- what a response with this id is
+abbrev pub settled_in : Id → TableValue → Settled
+settled_in id table = settled_by (named_in id table) (entry_of (named_in id table) table)
+
+-- what can be told of what is kept of a request, where this becomes of those that have no response
+abbrev pub look_of : Kept → (rest : Option Outcome) → Look
+look_of Waiting (Some outcome) = Known outcome
+look_of Waiting None = NotYet
+look_of (Answered outcome) rest = Known outcome
+look_of Forgotten rest = NoRequest
+
+-- what can be told of a request that there may be
+abbrev pub look_at_entry : Option Entry → (rest : Option Outcome) → Look
+look_at_entry (Some entry) rest = look_of entry.kept rest
+look_at_entry None rest = NoRequest
+
+-- what can be told of request n
+abbrev pub look_in : ℕ → TableValue → Look
+look_in n table = look_at_entry (with_number n table.requests) table.rest
+
+-- the same as the table's answer
+abbrev pub shown : rust_look.Look → Look
+shown (answers.Known outcome) = Known outcome.now
+shown answers.NotYet = NotYet
+shown answers.NoRequest = NoRequest
+
+-- one more request
+abbrev pub begun : Expect → (progress : Bool) → TableValue → TableValue
+begun expect progress table = record table { requests = table.requests ++ ((record { expect = expect; progress = progress; kept = Waiting }) ∷ []) }
+
+-- the requests, where another thing is kept of the one at this place, from 0
+abbrev pub kept_at : ℕ → Kept → List Entry → List Entry
+kept_at place kept [] = []
+kept_at zero kept (entry ∷ entries) = record entry { kept = kept } ∷ entries
+kept_at (suc place) kept (entry ∷ entries) = entry ∷ kept_at place kept entries
+
+-- another thing is kept of request n
+abbrev pub with_kept : ℕ → Kept → TableValue → TableValue
+with_kept n kept table = record table { requests = kept_at (n - 1) kept table.requests }
+
+-- after a response that is this
+abbrev pub settled : Settled → Outcome → TableValue → TableValue
+settled (First n expect) outcome table = with_kept n (Answered outcome) table
+settled Stray outcome table = table
+
+-- whether the peer's request of this id waits
+abbrev pub waits_in : Id → TableValue → Bool
+waits_in id table = list_any (same_id id) table.waiting
+
+-- one more request of the peer
+abbrev pub heard : Id → TableValue → TableValue
+heard id table = record table { waiting = table.waiting ++ (id ∷ []) }
+
+-- the peer's request of this id is answered
+abbrev pub answered : Id → TableValue → TableValue
+answered id table = record table { waiting = filter (λ waiting. not (same_id waiting id)) table.waiting }
+
+-- what there is, or this where there is nothing
+abbrev pub unless_some : Option Outcome → Outcome → Option Outcome
+unless_some (Some outcome) otherwise = Some outcome
+unless_some None otherwise = Some otherwise
+
+-- requests that have no response get none any more, and this becomes of them
+abbrev pub over : Outcome → TableValue → TableValue
+over outcome table = record table { rest = unless_some table.rest outcome }

@@ -1,0 +1,10 @@
+//! The requests of one connection: its own with what became of them, and the peer's that wait for an answer.
+#![tactic(auto)]
+
+mod answers;
+mod entry;
+mod table;
+
+pub use answers::{Heard, Look, Settled};
+pub use rpc_items::{Expect, Outcome};
+pub use table::CallTable;

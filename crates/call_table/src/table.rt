@@ -1,0 +1,244 @@
+//! The table and its calls.
+
+ghost use Rattle.std.specs.Prelude.{◌≡◌, ◌<◌, ◌≤◌, ◌+◌, filter, length, not};
+ghost use Rattle.std.specs.Option.{option_copied};
+ghost use Rattle.rpc_items.specs.Drawn.{with_number};
+ghost use Rattle.rpc_items.specs.Ids.{same_id};
+ghost use Rattle.rpc_items.specs.declared.calls.Outcome.TheVariants as outcomes;
+ghost use Rattle.rpc_items.specs.Outcomes.{is_known};
+ghost use Rattle.call_table.specs.declared.entry.Kept.TheVariants as kepts;
+ghost use Rattle.call_table.specs.Replies.{Does, Draws, Hears, full_refusal, unless_there};
+ghost use Rattle.call_table.specs.Table.{answered, begun, empty, heard, look_in, named_in, over, settled, settled_in, shown, waits_in, with_kept};
+
+use crate::answers::{Heard, Look, Settled};
+use crate::entry::{Entry, Kept};
+use rpc_items::{Expect, Outcome};
+use std::alloc::Global;
+use std::marker::Model;
+use wire_base::{CallFault, Id, Refusal};
+
+/// The most requests that are drawn.
+const MOST_REQUESTS: usize = 4_294_967_295;
+
+/// The requests of one connection.
+#[derive(Drop)]
+pub struct CallTable {
+    /// Own requests: request 1 first.
+    requests: Vec<Entry>,
+    /// What becomes of those that have no response, once none can come.
+    rest: Option<Outcome>,
+    /// The ids of the peer's requests that wait.
+    waiting: Vec<Id>,
+}
+
+impl Model for CallTable {
+    ghost use Rattle.call_table.specs.Codes.{coded_table};
+    ghost use Rattle.call_table.specs.Table.{TableValue};
+
+    ghost Value = { TableValue };
+
+    ghost coded = { coded_table };
+
+    ghost view = { λ t. record { requests = t.requests.items; rest = t.rest; waiting = t.waiting.items } };
+}
+
+/// Whether two ids are the same.
+fn is_same(a: &Id, b: &Id) -> bool
+    ensures { result ≡ same_id a.now b.now }
+{
+    match (a, b) {
+        (Id::Number(a), Id::Number(b)) => a == b,
+        (Id::Name(a), Id::Name(b)) => a == b,
+        _ => false,
+    }
+}
+
+/// Removes an id from those that wait.
+fn remove(waiting: &mut Vec<Id>, id: &Id)
+    ensures { waiting.new.items ≡ filter (λ waiting. not (same_id waiting id.now)) waiting.old.items }
+{
+    waiting.retain(|waiting| !is_same(waiting, id));
+}
+
+impl CallTable {
+    /// A table with nothing in it. It takes no memory.
+    pub fn new(alloc: Global) -> CallTable
+        ensures { result ≡ empty }
+    {
+        CallTable {
+            requests: Vec::new(alloc),
+            rest: None,
+            waiting: Vec::new(alloc),
+        }
+    }
+
+    /// The last number that was drawn, 0 before the first.
+    pub fn drawn(&self) -> u64
+        ensures value { result ≡ length self.now.requests }
+    {
+        self.requests.len() as u64
+    }
+
+    /// The request with this number.
+    fn find(&self, n: u64) -> Option<&Entry>
+        ensures { option_copied result ≡ with_number n self.now.requests }
+    {
+        if n == 0 {
+            None
+        } else {
+            self.requests.get(n as usize - 1)
+        }
+    }
+
+    /// The request without a response that an id names.
+    fn named(&self, id: &Id) -> Option<u64>
+        ensures { result ≡ named_in id.now self.now }
+    {
+        match (&self.rest, id) {
+            (None, Id::Number(n)) if 0 < *n => {
+                let n = *n as u64;
+                match self.find(n) {
+                    Some(entry) if matches!(entry.kept, Kept::Waiting) => Some(n),
+                    _ => None,
+                }
+            }
+            _ => None,
+        }
+    }
+
+    /// Keeps this of a request.
+    fn keep(&mut self, n: u64, kept: Kept)
+        requires above { 0 < n }
+        requires drawn { n ≤ length self.old.requests }
+        ensures { self.new ≡ with_kept n kept self.old }
+    {
+        self.requests[n as usize - 1].kept = kept;
+    }
+
+    /// What a response with this id would be to the requests.
+    pub fn foresee(&self, id: &Id) -> Settled
+        ensures value { result ≡ settled_in id.now self.now }
+    {
+        match self.named(id) {
+            Some(n) => match self.find(n) {
+                Some(entry) => Settled::First(n, entry.expect),
+                None => Settled::Stray,
+            },
+            None => Settled::Stray,
+        }
+    }
+
+    /// What can be told of a request. It takes no memory.
+    pub fn outcome(&self, n: u64) -> Look<'_>
+        ensures value { shown result ≡ look_in n self.now }
+    {
+        match self.find(n) {
+            Some(entry) => match &entry.kept {
+                Kept::Waiting => match &self.rest {
+                    Some(outcome) => Look::Known(outcome),
+                    None => Look::NotYet,
+                },
+                Kept::Answered(outcome) => Look::Known(outcome),
+                Kept::Forgotten => Look::NoRequest,
+            },
+            None => Look::NoRequest,
+        }
+    }
+
+    /// Whether the peer's request of this id waits.
+    pub fn waits(&self, id: &Id) -> bool
+        ensures value { result ≡ waits_in id.now self.now }
+    {
+        self.waiting.iter().any(|waiting| is_same(id, waiting))
+    }
+
+    /// Draws the number of a request: 1, 2, 3 and so on.
+    pub fn begin(&mut self, expect: Expect, progress: bool) -> Result<u64, CallFault>
+        ensures value { Draws (full_refusal self.old) (length self.old.requests + 1) self.old self.new (begun expect progress self.old) result }
+    {
+        if MOST_REQUESTS <= self.requests.len() {
+            return Err(CallFault::Refused(Refusal::TooManyRequests));
+        }
+        let entry = Entry {
+            expect,
+            progress,
+            kept: Kept::Waiting,
+        };
+        match self.requests.push(entry) {
+            Ok(()) => Ok(self.drawn()),
+            Err(_) => Err(CallFault::OutOfMemory),
+        }
+    }
+
+    /// Keeps what the first response to a request tells. It takes no memory.
+    pub fn settle(&mut self, id: &Id, outcome: Outcome) -> Settled
+        ensures answers { result ≡ settled_in id.now self.old }
+        ensures value { self.new ≡ settled (settled_in id.now self.old) outcome self.old }
+    {
+        let settled = self.foresee(id);
+        if let Settled::First(n, _) = settled {
+            self.keep(n, Kept::Answered(outcome));
+        }
+        settled
+    }
+
+    /// Notes a request of the peer that waits from now on.
+    pub fn hear(&mut self, id: Id) -> Heard
+        ensures value { Hears (waits_in id self.old) id self.old self.new (heard id self.old) result }
+    {
+        if self.waits(&id) {
+            return Heard::Duplicate(id);
+        }
+        match self.waiting.push(id) {
+            Ok(()) => Heard::New,
+            Err(_) => Heard::OutOfMemory,
+        }
+    }
+
+    /// Notes that a request of the peer is answered. It takes no memory.
+    pub fn answer(&mut self, id: &Id) -> Result<(), Refusal>
+        ensures value { Does (unless_there (waits_in id.now self.old)) self.old self.new (answered id.now self.old) result }
+    {
+        if !self.waits(id) {
+            return Err(Refusal::NoRequest);
+        }
+        remove(&mut self.waiting, id);
+        Ok(())
+    }
+
+    /// Keeps a known outcome no longer. It takes no memory.
+    pub fn forget(&mut self, n: u64) -> Result<(), Refusal>
+        ensures value { Does (unless_there (is_known (look_in n self.old))) self.old self.new (with_kept n kepts.Forgotten self.old) result }
+    {
+        match self.outcome(n) {
+            Look::Known(_) => {
+                self.keep(n, Kept::Forgotten);
+                Ok(())
+            }
+            Look::NotYet | Look::NoRequest => Err(Refusal::NoRequest),
+        }
+    }
+
+    /// Requests without a response get this.
+    fn end(&mut self, rest: Outcome)
+        ensures { self.new ≡ over rest self.old }
+    {
+        if self.rest.is_none() {
+            self.rest = Some(rest);
+        }
+    }
+
+    /// Notes that the connection ended: requests without a response are lost. It takes no memory.
+    pub fn lose_all(&mut self)
+        ensures value { self.new ≡ over outcomes.Lost self.old }
+    {
+        self.end(Outcome::Lost);
+    }
+
+    /// Notes that the connection stopped: requests without a response are starved. It takes no memory.
+    pub fn starve_all(&mut self)
+        ensures value { self.new ≡ over outcomes.Starved self.old }
+    {
+        self.end(Outcome::Starved);
+    }
+}
