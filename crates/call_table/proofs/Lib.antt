@@ -1,1 +1,6 @@
 pub mod Keeping
+pub mod Places
+pub mod Reading
+pub mod Standing
+pub mod Answering
+pub mod After

@@ -1,12 +1,13 @@
 -- When a table stands for a list of items.
-use Rattle.std.specs.Prelude.{◌≡◌, ℕ, ◌+◌, List, length, Bool, true, false, not, ◌&&◌, is_none, slice_get, option_map, if◌then◌else◌, Option, Some, None}
+use Rattle.std.specs.Prelude.{◌≡◌, ℕ, ◌+◌, List, [], ◌∷◌, length, Bool, true, false, not, ◌&&◌, is_none, slice_get, option_map, if◌then◌else◌, Option, Some, None}
 use Rattle.wire_base.specs.declared.text.Id.{Id}
+use Rattle.rpc_items.specs.declared.calls.Expect.{Expect}
 use Rattle.rpc_items.specs.declared.calls.Outcome.{Outcome}
 use Rattle.rpc_items.specs.declared.calls.Outcome.TheVariants.{Replied, Failed, Lost, Starved}
 use Rattle.rpc_items.specs.declared.messages.Message.{Message}
 use Rattle.rpc_items.specs.declared.messages.Message.TheVariants as message
-use Rattle.rpc_items.specs.Items.{RpcItem, is_running}
-use Rattle.rpc_items.specs.Drawn.{Asked, asked, asked_at, drawn, is_drawn, is_forgotten}
+use Rattle.rpc_items.specs.Items.{RpcItem, Did, RpcCall, is_running}
+use Rattle.rpc_items.specs.Drawn.{Asked, asked, asked_by, asked_at, drawn, is_drawn, is_forgotten}
 use Rattle.rpc_items.specs.Outcomes.{answer_to, request_named}
 use Rattle.rpc_items.specs.Waiting.{is_waiting}
 use Rattle.call_table.specs.declared.answers.Settled.{Settled}
@@ -52,6 +53,14 @@ pub record TableStands (stopped : Bool) (table : TableValue) (items : List RpcIt
   pub rest : table.rest ≡ rest_by (is_running items) stopped
   pub waiting : (id : Id) → waits_in id table ≡ is_waiting id items
   pub forgotten : (n : ℕ) → is_forgotten n items ≡ true → (is_drawn n items ≡ true) × (can_come (is_running items) (answer_to n items) ≡ false)
+
+-- a request that was asked so
+abbrev pub asked_as : Expect → (progress : Bool) → (page_of : Option ℕ) → Asked
+asked_as expect progress page_of = record { expect = expect; progress = progress; page_of = page_of }
+
+-- the table stands for the items with any call after them that draws a request so
+abbrev pub StandsDrawn : Expect → (progress : Bool) → TableValue → List RpcItem → Type 0
+StandsDrawn expect progress table items = (call : RpcCall) (page_of : Option ℕ) → asked_by (Did call) ≡ asked_as expect progress page_of ∷ [] → TableStands false table (Did call ∷ items)
 
 -- the response with this id that tells this
 abbrev pub response_of : Id → Outcome → Option Message

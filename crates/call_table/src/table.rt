@@ -1,13 +1,24 @@
 //! The table and its calls.
 
-ghost use Rattle.std.specs.Prelude.{◌≡◌, ◌<◌, ◌≤◌, ◌+◌, filter, length, not};
+ghost use Rattle.std.specs.Prelude.{◌≡◌, ◌<◌, ◌≤◌, ◌+◌, ◌∷◌, [], filter, false, length, not, true, Bool, List, ℕ, Some, OnErr, OnOk};
+ghost use Rattle.std.specs.List.{list_any};
 ghost use Rattle.std.specs.Option.{option_copied};
-ghost use Rattle.rpc_items.specs.Drawn.{with_number};
+ghost use Rattle.rpc_items.specs.Drawn.{drawn, with_number};
 ghost use Rattle.rpc_items.specs.Ids.{same_id};
 ghost use Rattle.rpc_items.specs.declared.calls.Outcome.TheVariants as outcomes;
-ghost use Rattle.rpc_items.specs.Outcomes.{is_known};
+ghost use Rattle.rpc_items.specs.Items.{RpcItem, Did, End, Forget, Got, Respond};
+ghost use Rattle.rpc_items.specs.Meanings.{meaning};
+ghost use Rattle.rpc_items.specs.Waiting.{asks, is_waiting};
+ghost use Rattle.rpc_items.specs.declared.calls.Answer.{Answer};
+ghost use Rattle.rpc_items.specs.declared.messages.Message.{Message};
+ghost use Rattle.rpc_items.specs.declared.messages.Message.TheVariants.{Request};
+ghost use Rattle.rpc_items.specs.declared.messages.Params.{Params};
+ghost use Rattle.wire_base.specs.declared.state.Cause.{Cause};
+ghost use Rattle.rpc_items.specs.Outcomes.{is_known, outcome};
+ghost use Rattle.call_table.specs.declared.answers.Heard.TheVariants as answers;
 ghost use Rattle.call_table.specs.declared.entry.Kept.TheVariants as kepts;
 ghost use Rattle.call_table.specs.Replies.{Does, Draws, Hears, full_refusal, unless_there};
+ghost use Rattle.call_table.specs.Stands.{TableStands, StandsDrawn, response_of, settling};
 ghost use Rattle.call_table.specs.Table.{answered, begun, empty, heard, look_in, named_in, over, settled, settled_in, shown, waits_in, with_kept};
 
 use crate::answers::{Heard, Look, Settled};
@@ -15,7 +26,7 @@ use crate::entry::{Entry, Kept};
 use rpc_items::{Expect, Outcome};
 use std::alloc::Global;
 use std::marker::Model;
-use wire_base::{CallFault, Id, Refusal};
+use wire_base::{CallFault, Id, OutOfMemory, Refusal};
 
 /// The most requests that are drawn.
 const MOST_REQUESTS: usize = 4_294_967_295;
@@ -33,6 +44,7 @@ pub struct CallTable {
 
 impl Model for CallTable {
     ghost use Rattle.call_table.specs.Codes.{coded_table};
+    ghost use Rattle.call_table.specs.Stands.{TableStands, StandsDrawn, response_of, settling};
     ghost use Rattle.call_table.specs.Table.{TableValue};
 
     ghost Value = { TableValue };
@@ -53,6 +65,13 @@ fn is_same(a: &Id, b: &Id) -> bool
     }
 }
 
+/// Whether an id is among these.
+fn is_among(id: &Id, waiting: &[Id]) -> bool
+    ensures { result ≡ list_any (same_id id.now) waiting.now }
+{
+    waiting.iter().any(|waiting| is_same(id, waiting))
+}
+
 /// Removes an id from those that wait.
 fn remove(waiting: &mut Vec<Id>, id: &Id)
     ensures { waiting.new.items ≡ filter (λ waiting. not (same_id waiting id.now)) waiting.old.items }
@@ -63,7 +82,8 @@ fn remove(waiting: &mut Vec<Id>, id: &Id)
 impl CallTable {
     /// A table with nothing in it. It takes no memory.
     pub fn new(alloc: Global) -> CallTable
-        ensures { result ≡ empty }
+        ensures value { result ≡ empty }
+        ensures stands { TableStands false result [] }
     {
         CallTable {
             requests: Vec::new(alloc),
@@ -75,6 +95,7 @@ impl CallTable {
     /// The last number that was drawn, 0 before the first.
     pub fn drawn(&self) -> u64
         ensures value { result ≡ length self.now.requests }
+        ensures stands { (stopped : Bool) (items : List RpcItem) → TableStands stopped self.now items → result ≡ drawn items }
     {
         self.requests.len() as u64
     }
@@ -118,6 +139,7 @@ impl CallTable {
     /// What a response with this id would be to the requests.
     pub fn foresee(&self, id: &Id) -> Settled
         ensures value { result ≡ settled_in id.now self.now }
+        ensures stands { (items : List RpcItem) → TableStands false self.now items → result ≡ settling id.now items }
     {
         match self.named(id) {
             Some(n) => match self.find(n) {
@@ -131,6 +153,7 @@ impl CallTable {
     /// What can be told of a request. It takes no memory.
     pub fn outcome(&self, n: u64) -> Look<'_>
         ensures value { shown result ≡ look_in n self.now }
+        ensures stands { (stopped : Bool) (items : List RpcItem) → TableStands stopped self.now items → shown result ≡ outcome stopped n items }
     {
         match self.find(n) {
             Some(entry) => match &entry.kept {
@@ -148,23 +171,33 @@ impl CallTable {
     /// Whether the peer's request of this id waits.
     pub fn waits(&self, id: &Id) -> bool
         ensures value { result ≡ waits_in id.now self.now }
+        ensures stands { (stopped : Bool) (items : List RpcItem) → TableStands stopped self.now items → result ≡ is_waiting id.now items }
     {
-        self.waiting.iter().any(|waiting| is_same(id, waiting))
+        is_among(id, self.waiting.as_slice())
+    }
+
+    /// Adds a request at the end.
+    fn add(&mut self, expect: Expect, progress: bool) -> Result<(), OutOfMemory>
+        ensures ok { OnOk result (self.new ≡ begun expect progress self.old) }
+        ensures err { OnErr result (self.new ≡ self.old) }
+    {
+        self.requests.push(Entry {
+            expect,
+            progress,
+            kept: Kept::Waiting,
+        })?;
+        Ok(())
     }
 
     /// Draws the number of a request: 1, 2, 3 and so on.
     pub fn begin(&mut self, expect: Expect, progress: bool) -> Result<u64, CallFault>
         ensures value { Draws (full_refusal self.old) (length self.old.requests + 1) self.old self.new (begun expect progress self.old) result }
+        ensures stands { (items : List RpcItem) → TableStands false self.old items → OnOk result (StandsDrawn expect progress self.new items) }
     {
         if MOST_REQUESTS <= self.requests.len() {
             return Err(CallFault::Refused(Refusal::TooManyRequests));
         }
-        let entry = Entry {
-            expect,
-            progress,
-            kept: Kept::Waiting,
-        };
-        match self.requests.push(entry) {
+        match self.add(expect, progress) {
             Ok(()) => Ok(self.drawn()),
             Err(_) => Err(CallFault::OutOfMemory),
         }
@@ -172,8 +205,10 @@ impl CallTable {
 
     /// Keeps what the first response to a request tells. It takes no memory.
     pub fn settle(&mut self, id: &Id, outcome: Outcome) -> Settled
-        ensures answers { result ≡ settled_in id.now self.old }
+        ensures answer { result ≡ settled_in id.now self.old }
         ensures value { self.new ≡ settled (settled_in id.now self.old) outcome self.old }
+        ensures stands { (items : List RpcItem) (place : ℕ) (message : Message) → TableStands false self.old items → response_of id.now outcome ≡ Some message →
+            TableStands false self.new (Got place message ∷ items) }
     {
         let settled = self.foresee(id);
         if let Settled::First(n, _) = settled {
@@ -182,14 +217,25 @@ impl CallTable {
         settled
     }
 
+    /// Adds the id of a request of the peer.
+    fn await_answer(&mut self, id: Id) -> Result<(), OutOfMemory>
+        ensures ok { OnOk result (self.new ≡ heard id self.old) }
+        ensures err { OnErr result (self.new ≡ self.old) }
+    {
+        self.waiting.push(id)?;
+        Ok(())
+    }
+
     /// Notes a request of the peer that waits from now on.
     pub fn hear(&mut self, id: Id) -> Heard
         ensures value { Hears (waits_in id self.old) id self.old self.new (heard id self.old) result }
+        ensures stands { (items : List RpcItem) (place : ℕ) (method : List ℕ) (params : Params) → TableStands false self.old items → asks (meaning method params) items ≡ true →
+            result ≡ answers.New → TableStands false self.new (Got place (Request id method params) ∷ items) }
     {
         if self.waits(&id) {
             return Heard::Duplicate(id);
         }
-        match self.waiting.push(id) {
+        match self.await_answer(id) {
             Ok(()) => Heard::New,
             Err(_) => Heard::OutOfMemory,
         }
@@ -198,6 +244,8 @@ impl CallTable {
     /// Notes that a request of the peer is answered. It takes no memory.
     pub fn answer(&mut self, id: &Id) -> Result<(), Refusal>
         ensures value { Does (unless_there (waits_in id.now self.old)) self.old self.new (answered id.now self.old) result }
+        ensures stands { (items : List RpcItem) (answer : Answer) → TableStands false self.old items →
+            OnOk result (TableStands false self.new (Did (Respond id.now answer) ∷ items)) }
     {
         if !self.waits(id) {
             return Err(Refusal::NoRequest);
@@ -209,6 +257,7 @@ impl CallTable {
     /// Keeps a known outcome no longer. It takes no memory.
     pub fn forget(&mut self, n: u64) -> Result<(), Refusal>
         ensures value { Does (unless_there (is_known (look_in n self.old))) self.old self.new (with_kept n kepts.Forgotten self.old) result }
+        ensures stands { (items : List RpcItem) → TableStands false self.old items → OnOk result (TableStands false self.new (Did (Forget n) ∷ items)) }
     {
         match self.outcome(n) {
             Look::Known(_) => {
@@ -228,16 +277,20 @@ impl CallTable {
         }
     }
 
+    #[tactic(auto, using(crate::proofs::After::lost_after))]
     /// Notes that the connection ended: requests without a response are lost. It takes no memory.
     pub fn lose_all(&mut self)
         ensures value { self.new ≡ over outcomes.Lost self.old }
+        ensures stands { (items : List RpcItem) (cause : Cause) → TableStands false self.old items → TableStands false self.new (End cause ∷ items) }
     {
         self.end(Outcome::Lost);
     }
 
+    #[tactic(auto, using(crate::proofs::After::starved_after))]
     /// Notes that the connection stopped: requests without a response are starved. It takes no memory.
     pub fn starve_all(&mut self)
         ensures value { self.new ≡ over outcomes.Starved self.old }
+        ensures stands { (items : List RpcItem) → TableStands false self.old items → TableStands true self.new items }
     {
         self.end(Outcome::Starved);
     }

@@ -68,7 +68,7 @@ named : (b : Bool) (k n : ℕ) → (if b then Some k else None) ≡ Some n → (
 named true k n e = (refl, cc e)
 named false k n e = absurd (cc e)
 
-named_parts : (id : Id) (items : List RpcItem) (n : ℕ) → request_named id items ≡ Some n → (is_unanswered n items ≡ true) × (id ≡ numbered_id n)
+pub named_parts : (id : Id) (items : List RpcItem) (n : ℕ) → request_named id items ≡ Some n → (is_unanswered n items ≡ true) × (id ≡ numbered_id n)
 named_parts (Number (pos k)) items n e =
     let parts = named (is_unanswered k items) k n e in
     (ap (λ j. is_unanswered j items) (sym parts.1) ∙ parts.0, ap numbered_id parts.1)
@@ -89,7 +89,7 @@ apart m n d false e = refl
 abbrev pub IsResponse : Id → Outcome → Message → Type 0
 IsResponse id o message = (m : ℕ) → response_in m message ≡ (if same_id id (numbered_id m) then Some o else None)
 
-settled_response : (place : ℕ) (id : Id) (o : Outcome) (message : Message) (items : List RpcItem) → IsResponse id o message → Settles place message items (answered_event (request_named id items))
+pub settled_response : (place : ℕ) (id : Id) (o : Outcome) (message : Message) (items : List RpcItem) → IsResponse id o message → Settles place message items (answered_event (request_named id items))
 settled_response place id o message items is = by (request_named id items) refl
   where
     by : (n : Option ℕ) → request_named id items ≡ n → Settles place message items (answered_event n)

@@ -1,0 +1,72 @@
+-- What stands at a place of a list of requests.
+use Rattle.std.specs.Prelude.{◌&&◌, ◌==◌, Bool, true, false, ◌⊎◌, nat_lt, nat_le, is_some, slice_get, if◌then◌else◌, zero, suc}
+use Rattle.std.proofs.Common.{◌≡◌, ◌≢◌, ℕ, ◌+◌, ◌-◌, ◌<◌, ◌≤◌, List, [], ◌∷◌, ◌++◌, length, refl, sym, ◌∙◌, ap, inl, inr, arith, Option, Some, None, le-leb}
+use Rattle.std.proofs.lemmas.Bool.{cases_Bool, cases_lt, lt-ltb, lt-leb, eq-eqb, eqb-true}
+use Rattle.std.proofs.lemmas.Option.{slice_get_past}
+use Rattle.rpc_items.specs.Drawn.{with_number}
+use Rattle.call_table.specs.declared.entry.Entry.{Entry}
+use Rattle.call_table.specs.declared.entry.Kept.{Kept}
+use Rattle.call_table.specs.Table.{kept_at}
+
+-- one more at the end
+
+pub get_before : {A : Type 0} (xs ys : List A) (i : ℕ) → i < length xs → slice_get (xs ++ ys) i ≡ slice_get xs i
+get_before [] ys i l = absurd (omega (arith, l))
+get_before (a ∷ xs) ys zero l = refl
+get_before (a ∷ xs) ys (suc i) l = get_before xs ys i (omega (arith, l))
+
+pub get_last : {A : Type 0} (xs : List A) (x : A) (i : ℕ) → i ≡ length xs → slice_get (xs ++ (x ∷ [])) i ≡ Some x
+get_last [] x zero e = refl
+get_last [] x (suc i) e = absurd (omega (arith, e))
+get_last (a ∷ xs) x zero e = absurd (omega (arith, e))
+get_last (a ∷ xs) x (suc i) e = get_last xs x i (omega (arith, e))
+
+pub three_ways : (i n : ℕ) → (i < n) ⊎ ((i ≡ n) ⊎ (n < i))
+three_ways zero zero = inr (inl refl)
+three_ways zero (suc n) = inl (omega arith)
+three_ways (suc i) zero = inr (inr (omega arith))
+three_ways (suc i) (suc n) = elim (three_ways i n) [
+  | inl l ↦ inl (omega (arith, l))
+  | inr r ↦ elim r [
+    | inl e ↦ inr (inl (ap suc e))
+    | inr l ↦ inr (inr (omega (arith, l)))
+  ]
+]
+
+-- another thing kept of one
+
+pub kept_at_same : (place : ℕ) (kept : Kept) (entries : List Entry) (entry : Entry) → slice_get entries place ≡ Some entry → slice_get (kept_at place kept entries) place ≡ Some (record entry { kept = kept })
+kept_at_same place kept [] entry e = absurd (cc e)
+kept_at_same zero kept (x ∷ xs) entry e = ap (λ (y : Entry). Some (record y { kept = kept })) (let same : x ≡ entry = cc e in same)
+kept_at_same (suc place) kept (x ∷ xs) entry e = kept_at_same place kept xs entry e
+
+pub kept_at_other : (place other : ℕ) (kept : Kept) (entries : List Entry) → other ≢ place → slice_get (kept_at place kept entries) other ≡ slice_get entries other
+kept_at_other place other kept [] d = refl
+kept_at_other zero zero kept (x ∷ xs) d = absurd (d refl)
+kept_at_other zero (suc other) kept (x ∷ xs) d = refl
+kept_at_other (suc place) zero kept (x ∷ xs) d = refl
+kept_at_other (suc place) (suc other) kept (x ∷ xs) d = kept_at_other place other kept xs (λ e. d (ap suc e))
+
+pub length-kept_at : (place : ℕ) (kept : Kept) (entries : List Entry) → length (kept_at place kept entries) ≡ length entries
+length-kept_at place kept [] = refl
+length-kept_at zero kept (x ∷ xs) = refl
+length-kept_at (suc place) kept (x ∷ xs) = ap suc (length-kept_at place kept xs)
+
+-- a number is that of one in the list where it isn't above the length
+
+get_within : {A : Type 0} (xs : List A) (i : ℕ) → i < length xs → is_some (slice_get xs i) ≡ true
+get_within [] i l = absurd (omega (arith, l))
+get_within (a ∷ xs) zero l = refl
+get_within (a ∷ xs) (suc i) l = get_within xs i (omega (arith, l))
+
+pub numbered_some : {A : Type 0} (n : ℕ) (xs : List A) → (nat_lt 0 n && nat_le n (length xs)) ≡ is_some (with_number n xs)
+numbered_some n xs = elim (cases_Bool (n == 0)) [
+  | inl e ↦ rw e (let none : n ≡ 0 = eqb-true n 0 e in ap (λ m. nat_lt 0 m && nat_le m (length xs)) none)
+  | inr e ↦ rw e (let some : 0 < n = above e in rw (lt-ltb 0 n some) (elim (cases_lt (length xs) n) [
+    | inl l ↦ rw (lt-leb n (length xs) l) (ap is_some (sym (slice_get_past xs (n - 1) (omega (arith, l)))))
+    | inr l ↦ rw (le-leb n (length xs) l) (sym (get_within xs (n - 1) (omega (arith, l, some))))
+  ]))
+]
+  where
+    above : (n == 0) ≡ false → 0 < n
+    above e = elim (cases_lt 0 n) [ inl l ↦ l | inr l ↦ absurd (cc (sym (eq-eqb n 0 (omega (arith, l))) ∙ e)) ]
