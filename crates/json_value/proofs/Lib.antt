@@ -1,0 +1,7 @@
+pub mod Walks
+pub mod Readings
+pub mod Writings
+pub mod ReadsBack
+pub mod TextLemmas
+pub mod NormLemmas
+pub mod LastLemmas

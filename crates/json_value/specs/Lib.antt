@@ -1,0 +1,4 @@
+pub mod Value
+pub mod Normal
+pub mod Json
+pub mod Reading

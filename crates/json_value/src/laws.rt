@@ -1,0 +1,31 @@
+//! What holds of normal forms and of texts, of every value and all bytes.
+
+ghost use Rattle.std.specs.Prelude.{◌≡◌, ◌≤◌, ℕ, List, option_map, false};
+ghost use Rattle.wire_base.specs.Tree.{Tree, no_pairs, pairs_of, pair_list_of};
+ghost use Rattle.wire_base.specs.Find.{last_of};
+ghost use Rattle.json_value.specs.Value.{IsValue, max_nesting, nesting, has_bytes};
+ghost use Rattle.json_value.specs.Normal.{norm, norm_onto, IsNormal};
+ghost use Rattle.json_value.specs.Json.{json_text};
+ghost use Rattle.json_value.specs.Reading.{IsReading, HasNoReading, HasFloat};
+
+/// A normal form has ordered keys, each with the last of its values, and is no deeper. What has ordered keys is its
+/// own normal form.
+pub fn norms_are_normal()
+    ensures normal { (t : Tree) → IsNormal (norm t) }
+    ensures same { (t : Tree) → IsNormal t → norm t ≡ t }
+    ensures again { (t : Tree) → norm (norm t) ≡ norm t }
+    ensures last { (k : List ℕ) (ps : List (List ℕ × Tree)) → last_of k (pair_list_of (norm_onto no_pairs (pairs_of ps))) ≡ option_map norm (last_of k ps) }
+    ensures shallow { (t : Tree) → nesting (norm t) ≤ nesting t }
+{}
+
+/// What is written for a value is read as its normal form.
+pub fn written_is_read()
+    ensures { (t : Tree) → IsValue t → nesting t ≤ max_nesting → has_bytes t ≡ false → IsReading (json_text t) (norm t) }
+{}
+
+/// Bytes are JSON of one value at most, and then neither without a reading nor with a float.
+pub fn readings_are_one()
+    ensures one { (b : List ℕ) (t u : Tree) → IsReading b t → IsReading b u → t ≡ u }
+    ensures json { (b : List ℕ) (t : Tree) → IsReading b t → HasNoReading b → ⊥ }
+    ensures whole { (b : List ℕ) (t : Tree) → IsReading b t → HasFloat b → ⊥ }
+{}

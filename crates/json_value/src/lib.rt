@@ -1,0 +1,15 @@
+//! Values as JSON, both ways.
+#![tactic(auto)]
+
+mod fault;
+mod laws;
+mod reader;
+mod writer;
+
+pub use fault::{JsonFault, JsonWrite};
+pub use laws::{norms_are_normal, readings_are_one, written_is_read};
+pub use reader::read;
+pub use writer::{show, write};
+
+#[cfg(test)]
+mod tests;
