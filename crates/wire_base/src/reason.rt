@@ -42,8 +42,6 @@ pub enum Reason {
     BadProcessed,
     /// 18: the name's bytes aren't UTF-8.
     BadName,
-    /// 19: the frame is well-formed and no end of this version of the program takes it.
-    NotBuilt,
     /// 20: one of the first four bytes of a version 1 handshake differs.
     BadMagic,
     /// 21: the major number of a version 2 handshake isn't 2.
@@ -125,7 +123,6 @@ impl Reason {
             Reason::BadAcceptance => 16,
             Reason::BadProcessed => 17,
             Reason::BadName => 18,
-            Reason::NotBuilt => 19,
             Reason::BadMagic => 20,
             Reason::BadVersion => 21,
             Reason::SameNonce => 22,
@@ -180,7 +177,6 @@ impl Reason {
             Reason::BadAcceptance => "BadAcceptance",
             Reason::BadProcessed => "BadProcessed",
             Reason::BadName => "BadName",
-            Reason::NotBuilt => "NotBuilt",
             Reason::BadMagic => "BadMagic",
             Reason::BadVersion => "BadVersion",
             Reason::SameNonce => "SameNonce",
