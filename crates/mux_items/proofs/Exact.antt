@@ -4,8 +4,8 @@ use Rattle.std.proofs.Common.{◌≡◌, ◌⊎◌, inl, inr, refl, sym, ◌∙�
 use Rattle.std.proofs.lemmas.Bool.{cases_Bool, true≢false, false≢true, and_parts, and_from, or_left, or_right, eqb-true, eqb-false, not-true, false_from_ne_true}
 use Rattle.wire_base.specs.declared.frame.Version.{Version}
 use Rattle.mux_items.specs.declared.channel.ChannelKey.{ChannelKey}
-use Rattle.mux_items.specs.Bodies.{FrameBody, Offer, OfferAccepted, Content, ContentWritingCompleted, ChannelTerminated, ContentProcessed, frame_on, same_key, is_one, window_of}
-use Rattle.mux_items.specs.Items.{Item, Hello, DidOffer, DidAccept, DidWrite, DidRead, DidComplete, DidTerminate, Got, Rejected, End, is_running}
+use Rattle.mux_items.specs.Bodies.{FrameBody, Offer, OfferAccepted, Content, ContentProcessed, frame_on, same_key, is_one, window_of}
+use Rattle.mux_items.specs.Items.{Item, DidRead, Got, Rejected, is_running}
 use Rattle.mux_items.specs.Lists.{has_terminated, is_terminated_by_peer, is_rejected, is_finished, emitted, emitted_in, is_accepted_in, taken, handed, unread, unread_count, is_dropped, is_live, is_accepted, heeds, granted, granted_in, acknowledged, before_cut, termination_emitted}
 use Rattle.mux_items.specs.Due.{acknowledgement, due, sent, got}
 use Rattle.mux_items.specs.Applying.{Allowed}

@@ -4,7 +4,7 @@ use Rattle.std.proofs.Common.{◌≡◌, inl, inr, refl, sym, ◌∙◌, ap}
 use Rattle.std.proofs.lemmas.Bool.{cases_Bool, true≢false, false≢true}
 use Rattle.wire_base.specs.declared.frame.Version.{Version}
 use Rattle.mux_items.specs.declared.channel.ChannelKey.{ChannelKey}
-use Rattle.mux_items.specs.Bodies.{FrameBody, Offer, OfferAccepted, Content, ContentWritingCompleted, ChannelTerminated, ContentProcessed, ChannelFrame, frame_on, other_key, flip, same_key}
+use Rattle.mux_items.specs.Bodies.{FrameBody, Offer, OfferAccepted, ContentWritingCompleted, ChannelFrame, frame_on, other_key, flip, same_key}
 use Rattle.mux_items.specs.Items.{Item, DidOffer, DidAccept, Got, Rejected, names}
 use Rattle.mux_items.specs.Lists.{is_offered, termination_emitted, is_accepted, is_completed, heeds}
 use Rattle.mux_items.specs.Due.{got}

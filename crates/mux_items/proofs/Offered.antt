@@ -9,9 +9,9 @@ use Rattle.wire_base.specs.declared.state.Cause.{Cause}
 use Rattle.mux_items.specs.declared.channel.ChannelKey.{ChannelKey}
 use Rattle.mux_items.specs.declared.party.Party.{Party}
 use Rattle.mux_items.specs.declared.party.Party.TheVariants.{Odd, Even, Neither}
-use Rattle.mux_items.specs.Bodies.{FrameBody, Offer, OfferAccepted, Content, ContentWritingCompleted, ChannelTerminated, ContentProcessed, same_key}
-use Rattle.mux_items.specs.Items.{Item, Hello, DidOffer, DidAccept, DidWrite, DidRead, DidComplete, DidTerminate, Got, Rejected, End, names, restricted, party_of, party_or_neither}
-use Rattle.mux_items.specs.Lists.{written, is_offered, has_completed, has_terminated, is_terminated_by_peer, is_rejected, is_accepted, is_closed, before_cut, completion_in, completion_emitted, is_finished, termination_emitted, unread}
+use Rattle.mux_items.specs.Bodies.{FrameBody, Offer, same_key}
+use Rattle.mux_items.specs.Items.{Item, Hello, DidOffer, DidAccept, DidWrite, DidRead, DidComplete, DidTerminate, Got, Rejected, End, names, party_of, party_or_neither}
+use Rattle.mux_items.specs.Lists.{written, is_offered, has_completed, has_terminated, is_terminated_by_peer, is_rejected, is_accepted, is_closed, completion_in, completion_emitted, is_finished, termination_emitted, unread}
 use Rattle.mux_items.specs.Kept.{keys, is_known, has_bytes, is_kept, own_offers, own_id, next_key}
 use Rattle.mux_items.specs.Refusals.{frame_refusal}
 use Rattle.mux_items.specs.Applying.{Allowed, lacks_room}

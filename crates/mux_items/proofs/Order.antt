@@ -4,7 +4,7 @@ use Rattle.std.proofs.Common.{◌≡◌, ◌⊎◌, inl, inr, refl, sym, ◌∙�
 use Rattle.std.proofs.lemmas.Bool.{cases_Bool, true≢false, or_parts}
 use Rattle.wire_base.specs.declared.frame.Version.{Version}
 use Rattle.mux_items.specs.declared.channel.ChannelKey.{ChannelKey}
-use Rattle.mux_items.specs.Bodies.{FrameBody, Offer, OfferAccepted, Content, ContentWritingCompleted, ChannelTerminated, ContentProcessed, ChannelFrame, frame_on, same_key, window_of}
+use Rattle.mux_items.specs.Bodies.{FrameBody, Offer, OfferAccepted, ContentWritingCompleted, ChannelTerminated, ContentProcessed, ChannelFrame, frame_on, same_key, window_of}
 use Rattle.mux_items.specs.Items.{Item}
 use Rattle.mux_items.specs.Lists.{completion_emitted, termination_emitted}
 use Rattle.mux_items.specs.Due.{sent, content_of, contents}

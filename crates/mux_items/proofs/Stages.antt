@@ -14,7 +14,7 @@ use Rattle.mux_items.proofs.Emission.{before_cut_cases, accepted_in_more}
 use Rattle.mux_items.proofs.Applied.{allowed_tail}
 use Rattle.mux_items.proofs.Taking.{termination_more}
 use Rattle.mux_items.proofs.Apart.{skipped, completion_emitted-restricted, termination_unnamed, accepted_unnamed}
-use Rattle.mux_items.proofs.Staging.{Stage, Fresh, Open, Done, Over, Wrong, next_stage, stage_with, stage_after, is_open, stage_by, stage_at}
+use Rattle.mux_items.proofs.Staging.{Stage, Fresh, Open, Done, Over, next_stage, stage_with, stage_after, is_open, stage_by, stage_at}
 use Rattle.mux_items.proofs.Permits.{accept_permits, acceptance_permits}
 use Rattle.mux_items.proofs.Window.{unheeded_over}
 use Rattle.mux_items.proofs.Open.{accepted_heard}
