@@ -1,6 +1,6 @@
 -- What a call, and the end of the stream, leave of two ends.
 use Rattle.std.specs.Prelude.{if◌then◌else◌, is_none}
-use Rattle.std.proofs.Common.{◌≡◌, ℕ, List, [], ◌∷◌, ◌++◌, length, refl, sym, ◌∙◌, ap, ap₂, subst, arith, length-append, Option, Some, None}
+use Rattle.std.proofs.Common.{◌≡◌, List, [], ◌∷◌, length, refl, sym, ◌∙◌, ap, ap₂, subst, arith, length-append, Option, Some, None}
 use Rattle.std.proofs.lemmas.List.{append-nil}
 use Rattle.wire_base.specs.declared.frame.Version.{Version}
 use Rattle.wire_base.specs.declared.state.Cause.{Cause}

@@ -7,7 +7,6 @@ use Rattle.wire_base.specs.declared.frame.Version.{Version}
 use Rattle.wire_base.specs.declared.reason.Reason.{Reason}
 use Rattle.wire_base.specs.declared.reason.Reason.TheVariants as reason
 use Rattle.wire_base.specs.declared.state.Cause.{Cause}
-use Rattle.wire_base.specs.declared.state.EndState.TheVariants as state
 use Rattle.frame_text.specs.Reading.{front}
 use Rattle.mux_items.specs.declared.channel.MuxEvent.{MuxEvent}
 use Rattle.mux_items.specs.Bodies.{ChannelFrame, flip, frame_text}
@@ -17,7 +16,7 @@ use Rattle.mux_items.specs.Parties.{party_by}
 use Rattle.mux_items.specs.Refusals.{frame_refusal, is_ready}
 use Rattle.mux_items.specs.Applying.{item_of_frame, event_of}
 use Rattle.mux_handshake.specs.Handshake.{handshake}
-use Rattle.mux_run.specs.Run.{RunSide, SideTerms, greeting_size, next_frames, place_after, settled}
+use Rattle.mux_run.specs.Run.{RunSide, SideTerms, greeting_size, next_frames, settled}
 use Rattle.mux_run.specs.Answers.{events_since, event_list, mux_event_list}
 use Rattle.mux_run.specs.declared.answers.EndEvent.{EndEvent}
 use Rattle.mux_run.specs.declared.answers.EndEvent.TheVariants as event

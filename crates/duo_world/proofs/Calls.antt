@@ -1,7 +1,8 @@
 -- A call of an end.
-use Rattle.std.specs.Prelude.{if◌then◌else◌, nat_lt, nat_le, not, ◌||◌, Bool, true, false, IsUtf8, MatchResult, IsOkAnd}
-use Rattle.std.proofs.Common.{◌≡◌, ℕ, ◌+◌, ◌<◌, ◌≤◌, List, ◌∷◌, ◌++◌, length, min, refl, sym, ◌∙◌, ap, subst, arith, Option, Some, None, Result, Ok, Err}
+use Rattle.std.specs.Prelude.{if◌then◌else◌, nat_lt, nat_le, not, true, false, IsUtf8, MatchResult, IsOkAnd}
+use Rattle.std.proofs.Common.{◌≡◌, ℕ, ◌+◌, ◌<◌, ◌≤◌, List, ◌∷◌, length, refl, sym, ◌∙◌, ap, subst, arith, Option, Some, None, Result, Ok, Err}
 use Rattle.std.proofs.lemmas.Bool.{and_parts, or_parts, lt-ltb, ltb-false, leb-false, not-false}
+use Rattle.std.proofs.lemmas.List.{append-nil}
 use Rattle.std.proofs.lemmas.Str.{is_utf8-from_IsUtf8}
 use Rattle.wire_base.specs.declared.frame.Version.{Version}
 use Rattle.wire_base.specs.declared.frame.Version.TheVariants as version
@@ -20,9 +21,9 @@ use Rattle.mux_items.specs.Bodies.{has_parity}
 use Rattle.mux_items.specs.Items.{Item, ended, greeting, party_of}
 use Rattle.mux_items.specs.Limits.{longest_name, greatest_window, most_channels, most_windows, most_offers}
 use Rattle.mux_items.specs.Kept.{is_known, is_kept, own_id, own_offers, next_key, kept_keys, own_windows}
-use Rattle.mux_items.specs.Lists.{unread, termination_emitted, is_accepted}
+use Rattle.mux_items.specs.Lists.{termination_emitted, is_accepted}
 use Rattle.mux_items.specs.Due.{got}
-use Rattle.mux_items.specs.Refusals.{is_ready, unless_ended, is_bad_window, or_else, open_refusal, writing_refusal, offer_refusal, accept_refusal, write_refusal, read_refusal, complete_refusal, terminate_refusal}
+use Rattle.mux_items.specs.Refusals.{is_ready, unless_ended, is_bad_window, or_else, open_refusal, writing_refusal, offer_refusal, accept_refusal}
 use Rattle.mux_items.specs.Calls.{call_refusal, item_of_call, unless_refused, called}
 use Rattle.mux_items.specs.Parties.{party_by}
 use Rattle.mux_items.proofs.Permits.{if_none}
@@ -30,7 +31,9 @@ use Rattle.mux_run.specs.declared.answers.Reply.{Reply}
 use Rattle.mux_run.specs.declared.answers.Reply.TheVariants as reply
 use Rattle.mux_run.specs.Run.{RunSide, SideTerms}
 use Rattle.mux_run.specs.Answers.{success, refused_or, reply_to}
-use Rattle.mux_end.specs.Stands.{EndValue, MuxStands}
+use Rattle.mux_run.proofs.Fed.{greeting_called}
+use Rattle.mux_run.proofs.Growing.{called_grown}
+use Rattle.mux_end.specs.Stands.{EndValue}
 use Rattle.mux_end.specs.Replies.{Adds, CallAnswers}
 use Rattle.duo_world.specs.Ranges.{IsKeyInRange, IsNumberInRange, IsInRange, AreInRange}
 use Rattle.duo_world.specs.Holding.{place_of, rest_of, StandsForSide}
@@ -144,22 +147,6 @@ call_in_range w (call.Terminate c) items parts s e = known_in_range w c items s 
 
 -- what a call answered
 
-got_call : (c : Call) (items : List Item) → got (item_of_call c items ∷ items) ≡ got items
-got_call (call.Offer name size) items = refl
-got_call (call.Accept c size) items = refl
-got_call (call.Write c bytes) items = refl
-got_call (call.Read c max) items = refl
-got_call (call.Complete c) items = refl
-got_call (call.Terminate c) items = refl
-
-greeting_call : (c : Call) (items : List Item) → greeting (item_of_call c items ∷ items) ≡ greeting items
-greeting_call (call.Offer name size) items = refl
-greeting_call (call.Accept c size) items = refl
-greeting_call (call.Write c bytes) items = refl
-greeting_call (call.Read c max) items = refl
-greeting_call (call.Complete c) items = refl
-greeting_call (call.Terminate c) items = refl
-
 accepted : {A : Type 0} (old new : EndValue) (items : List Item) (at : ℕ) (rest : List ℕ) (r : Option Refusal) (item : Item) (IsAnswer : A → Type 0) (z : A)
     → CallAnswers old new items at rest r item IsAnswer (Ok z) → (r ≡ None) × Adds old new items at rest item × IsAnswer z
 accepted old new items at rest None item IsAnswer z a = (refl, a.0, a.1)
@@ -181,11 +168,13 @@ call_done w c old new x y IsAnswer z parts h a =
     let items = x.items in
     let item = item_of_call c items in
     let p = accepted old new items (place_of w x y) (rest_of w x y) (call_refusal old.version c items) item IsAnswer z a in
-    let ok : call_refusal v c items ≡ None = sym (ap (λ v. call_refusal v c items) h.version) ∙ p.0 in (
+    let ok : call_refusal v c items ≡ None = sym (ap (λ v. call_refusal v c items) h.version) ∙ p.0 in
+    let now : called v c items ≡ item ∷ items = ap (λ r. unless_refused r item items) ok in
+    let same : got (item ∷ items) ≡ got items = ap got (sym now) ∙ ((called_grown v c items).applied ∙ append-nil (got items)) in (
       p.2,
       ap (λ r. refused_or r (success v c items)) ok,
-      subst (λ items. StandsForSide w new (side_with items x.delivered) y) (sym (ap (λ r. unless_refused r item items) ok))
-          (stands_item w old new item items x.delivered y (got_call c items) (greeting_call c items) (call_in_range w c items parts h.in_range ok) h p.1),
+      subst (λ items. StandsForSide w new (side_with items x.delivered) y) (sym now)
+          (stands_item w old new item items x.delivered y same (ap greeting (sym now) ∙ greeting_called v c items) (call_in_range w c items parts h.in_range ok) h p.1),
     )
 
 pub call_failed : {A : Type 0} (w : SideTerms) (c d : Call) (old new : EndValue) (x y : RunSide) (IsAnswer : A → Type 0) (f : CallFault) → c ≡ d → StandsForSide w old x y → AnswersAt w d old new x y IsAnswer (Err f)

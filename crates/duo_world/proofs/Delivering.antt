@@ -1,6 +1,6 @@
 -- What a delivery leaves of an end, and a step of the other end.
-use Rattle.std.specs.Prelude.{if◌then◌else◌, nat_lt, not, min, Bool, true, false, is_none}
-use Rattle.std.proofs.Common.{◌≡◌, ℕ, ◌+◌, ◌-◌, ◌≤◌, List, [], ◌∷◌, ◌++◌, length, take, drop, map, refl, sym, ◌∙◌, ap, ap₂, subst, arith, length-append, length-drop, length-take, Option, Some, None, Ok}
+use Rattle.std.specs.Prelude.{if◌then◌else◌, nat_lt, not, min, Bool, true, false}
+use Rattle.std.proofs.Common.{◌≡◌, ℕ, ◌+◌, ◌-◌, ◌≤◌, List, [], ◌∷◌, ◌++◌, length, take, drop, map, refl, sym, ◌∙◌, ap, ap₂, subst, arith, length-append, length-drop, length-take, None, Ok}
 use Rattle.std.proofs.lemmas.List.{take-append-le, take-append-drop, drop-append-le, drop-drop, append_cancel_left, length-map}
 use Rattle.std.proofs.Math.Seq.{take-add}
 use Rattle.wire_base.specs.declared.frame.Version.{Version}
@@ -10,7 +10,7 @@ use Rattle.wire_base.specs.declared.state.EndState.{EndState}
 use Rattle.wire_base.specs.declared.state.EndState.TheVariants as state
 use Rattle.mux_items.specs.Bodies.{ChannelFrame, flip, frame_texts}
 use Rattle.mux_items.specs.Items.{Item, End, is_running, ended}
-use Rattle.mux_items.specs.Due.{due, sent, got}
+use Rattle.mux_items.specs.Due.{sent, got}
 use Rattle.mux_items.specs.Limits.{most_bytes}
 use Rattle.mux_items.specs.Refusals.{is_ready}
 use Rattle.mux_run.specs.declared.steps.Side.{Side}

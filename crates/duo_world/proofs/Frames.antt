@@ -7,7 +7,7 @@ use Rattle.std.proofs.lemmas.Bool.{cases_Bool}
 use Rattle.wire_base.specs.declared.frame.Version.{Version}
 use Rattle.wire_base.specs.declared.frame.Version.TheVariants as version
 use Rattle.wire_base.specs.declared.frame.Origin.TheVariants as origin
-use Rattle.frame_text.specs.Frames.{fits, fits_id, fits_origin, is_empty}
+use Rattle.frame_text.specs.Frames.{fits, is_empty}
 use Rattle.mux_items.specs.declared.channel.ChannelKey.{ChannelKey}
 use Rattle.mux_items.specs.declared.party.Party.{Party}
 use Rattle.mux_items.specs.Bodies.{FrameBody, Offer, OfferAccepted, Content, ContentWritingCompleted, ChannelTerminated, ContentProcessed, ChannelFrame, frame_on, frame_of, flip, other_key, taken_frame, origin_of, has_parity, is_own, same_key, is_one, is_three}
@@ -20,7 +20,7 @@ use Rattle.mux_items.specs.Parties.{party_by}
 use Rattle.mux_items.specs.Refusals.{is_greeted, is_ready}
 use Rattle.mux_items.proofs.Keys.{same_key_true}
 use Rattle.mux_run.specs.Run.{SideTerms, turned}
-use Rattle.mux_end.proofs.Fits.{fits_offer, fits_accepted, fits_content, fits_processed}
+use Rattle.mux_end.proofs.Fits.{fits_offer, fits_accepted, fits_content, fits_completed, fits_terminated, fits_processed}
 use Rattle.duo_world.specs.Ranges.{IsKeyInRange, IsPartyOfNonces, IsInRange, AreInRange}
 use Rattle.duo_world.specs.Holding.{HaveNonces}
 use Rattle.duo_world.proofs.Sides.{other_parity}
@@ -43,23 +43,6 @@ writable-back w [] gs a = a
 writable-back w (f ∷ fs) gs a = writable-back w fs gs a.1
 
 -- frames on a channel
-
-two_hold : (a b : Bool) → a ≡ true → b ≡ true → (true && a && b && true) ≡ true
-two_hold a b p q = cc
-
-side_fits : (own : Bool) → fits_origin version.Three (if own then origin.Sender else origin.Receiver) ≡ true
-side_fits true = refl
-side_fits false = refl
-
-completion_fits : (v : Version) (c : ChannelKey) → fits_id v c.id ≡ true → fits v (frame_of v (frame_on c ContentWritingCompleted)) ≡ true
-completion_fits version.One c id = two_hold _ _ id refl
-completion_fits version.Two c id = two_hold _ _ id refl
-completion_fits version.Three c id = two_hold _ _ id (side_fits c.own)
-
-termination_fits : (v : Version) (c : ChannelKey) → fits_id v c.id ≡ true → fits v (frame_of v (frame_on c ChannelTerminated)) ≡ true
-termination_fits version.One c id = two_hold _ _ id refl
-termination_fits version.Two c id = two_hold _ _ id refl
-termination_fits version.Three c id = two_hold _ _ id (side_fits c.own)
 
 pieces_writable : (w : SideTerms) (c : ChannelKey) (turns : ℕ) (bytes : List ℕ) → IsKeyInRange w c → AreWritable w (map (λ piece. frame_on c (Content piece)) (pieces_in turns bytes))
 pieces_writable w c zero bytes s = tt
@@ -84,8 +67,8 @@ due_on_writable w c first item items s f =
     writable-append w (first ++ content_frames c bytes ++ third) last
     (writable-append w (first ++ content_frames c bytes) third
     (writable-append w first (content_frames c bytes) f (pieces_writable w c (length bytes) bytes s))
-    (if_writable w (completes v c item items) (frame_on c ContentWritingCompleted) (record { fits = completion_fits v c s.id; key = s })))
-    (if_writable w (terminates v c item items) (frame_on c ChannelTerminated) (record { fits = termination_fits v c s.id; key = s }))
+    (if_writable w (completes v c item items) (frame_on c ContentWritingCompleted) (record { fits = fits_completed v c s.id; key = s })))
+    (if_writable w (terminates v c item items) (frame_on c ChannelTerminated) (record { fits = fits_terminated v c s.id; key = s }))
 
 if_none_writable : (w : SideTerms) (b : Bool) (fs : List ChannelFrame) → (b ≡ false → AreWritable w fs) → AreWritable w (if b then [] else fs)
 if_none_writable w true fs s = tt
@@ -109,7 +92,7 @@ due_writable w (DidRead c max) items s = acknowledgement_writable w c (min max (
 due_writable w (DidComplete c) items s = due_on_writable w c [] (DidComplete c) items s tt
 due_writable w (DidTerminate c) items s = due_on_writable w c [] (DidTerminate c) items s tt
 due_writable w (Got place c body) items s = due_on_writable w c [] (Got place c body) items s tt
-due_writable w (Rejected place c body) items s = (record { fits = termination_fits w.version c s.id; key = s }, tt)
+due_writable w (Rejected place c body) items s = (record { fits = fits_terminated w.version c s.id; key = s }, tt)
 due_writable w (End cause) items s = tt
 
 -- each frame that was sent can be written
@@ -122,15 +105,7 @@ sent_writable w (item ∷ items) s = writable-append w (sent w.version items) (d
 told : (w : SideTerms) (items : List Item) → AreInRange w items → is_greeted (greeting items) ≡ true → IsPartyOfNonces w (party_of items)
 told w [] s e = absurd cc
 told w (Hello party ∷ items) s e = s.0
-told w (DidOffer key name size ∷ items) s e = told w items s.1 e
-told w (DidAccept key size ∷ items) s e = told w items s.1 e
-told w (DidWrite key bytes ∷ items) s e = told w items s.1 e
-told w (DidRead key max ∷ items) s e = told w items s.1 e
-told w (DidComplete key ∷ items) s e = told w items s.1 e
-told w (DidTerminate key ∷ items) s e = told w items s.1 e
-told w (Got place key body ∷ items) s e = told w items s.1 e
-told w (Rejected place key body ∷ items) s e = told w items s.1 e
-told w (End cause ∷ items) s e = told w items s.1 e
+told w (item ∷ items) s e = told w items s.1 e
 
 -- an end of version 1 or 2 that is ready has its party by the nonces
 pub ready_party : (w : SideTerms) (items : List Item) → AreInRange w items → is_ready w.version items ≡ true → is_three w.version ≡ false → IsPartyOfNonces w (party_of items)
@@ -180,21 +155,9 @@ AreKeysInRange w (c ∷ cs) = IsKeyInRange w c × AreKeysInRange w cs
 
 keys_in_range : (w : SideTerms) (items : List Item) → AreInRange w items → AreKeysInRange w (keys items)
 keys_in_range w [] s = tt
-keys_in_range w (Hello party ∷ items) s = keys_in_range w items s.1
 keys_in_range w (DidOffer key name size ∷ items) s = (s.0.0, keys_in_range w items s.1)
-keys_in_range w (DidAccept key size ∷ items) s = keys_in_range w items s.1
-keys_in_range w (DidWrite key bytes ∷ items) s = keys_in_range w items s.1
-keys_in_range w (DidRead key max ∷ items) s = keys_in_range w items s.1
-keys_in_range w (DidComplete key ∷ items) s = keys_in_range w items s.1
-keys_in_range w (DidTerminate key ∷ items) s = keys_in_range w items s.1
 keys_in_range w (Got place key (Offer name size) ∷ items) s = (s.0, keys_in_range w items s.1)
-keys_in_range w (Got place key (OfferAccepted size) ∷ items) s = keys_in_range w items s.1
-keys_in_range w (Got place key (Content bytes) ∷ items) s = keys_in_range w items s.1
-keys_in_range w (Got place key ContentWritingCompleted ∷ items) s = keys_in_range w items s.1
-keys_in_range w (Got place key ChannelTerminated ∷ items) s = keys_in_range w items s.1
-keys_in_range w (Got place key (ContentProcessed count) ∷ items) s = keys_in_range w items s.1
-keys_in_range w (Rejected place key body ∷ items) s = keys_in_range w items s.1
-keys_in_range w (End cause ∷ items) s = keys_in_range w items s.1
+keys_in_range w (item ∷ items) s = keys_in_range w items s.1
 
 any_in_range : (w : SideTerms) (c : ChannelKey) (cs : List ChannelKey) → AreKeysInRange w cs → list_any (same_key c) cs ≡ true → IsKeyInRange w c
 any_in_range w c [] s e = absurd cc

@@ -31,6 +31,7 @@ pub record StandForSides (w : SideTerms) (own peer : EndValue) (x y : RunSide) :
   pub at_own : StandsForSide w own x y
   pub at_peer : StandsForSide (turned w) peer y x
 
+-- the same of the ends A and B, and the two sides of a world
 abbrev pub StandForWorld : Terms → (a b : EndValue) → World → Type 0
 StandForWorld terms a b w = StandForSides (terms_at_a terms) a b w.a w.b
 
@@ -51,15 +52,16 @@ pub record HaveNonces (w : SideTerms) : Type 0 where
   pub own : length w.own ≡ 16
   pub peer : length w.peer ≡ 16
 
--- a Duo in which memory never ran out
+-- a Duo in which memory didn't run out stands for its run
 pub record IsWorking (d : DuoState) : Type 0 where
   pub nonces : HaveNonces (terms_at_a d.terms)
   pub stands : StandsForRun d
 
--- of a Duo whose memory ran out in a step nothing is promised
+-- of a Duo in which memory ran out nothing is promised
 abbrev pub DuoHolds : DuoState → Type 0
 DuoHolds d = d.failed ≡ false → IsWorking d
 
+-- the end of a side
 abbrev pub end_of : Side → DuoState → EndValue
 end_of A d = d.a
 end_of B d = d.b

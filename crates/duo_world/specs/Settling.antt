@@ -11,6 +11,7 @@ use Rattle.mux_end.specs.Stands.{EndValue}
 use Rattle.duo_world.specs.Ranges.{AreInRange}
 use Rattle.duo_world.specs.Holding.{StandsForSide, HaveNonces}
 
+-- whether an end in this state runs
 abbrev pub is_running_state : EndState → Bool
 is_running_state state.Running = true
 is_running_state (state.Ended cause) = false

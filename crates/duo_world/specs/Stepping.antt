@@ -54,6 +54,7 @@ pub record Emits (w : SideTerms) (x x' : RunSide) (own own' peer peer' : EndValu
   pub own_output : own'.output ≡ own.output ++ newly_out w x x'
   pub peer_output : peer'.output ≡ drop (x'.delivered - x.delivered) peer.output
 
+-- the same of a step at either side, between two worlds
 abbrev pub EmitsOn : Side → Terms → (w w' : World) → (a a' b b' : EndValue) → Type 0
 EmitsOn A terms w w' a a' b b' = Emits (terms_at_a terms) w.a w'.a a a' b b'
 EmitsOn B terms w w' a a' b b' = Emits (terms_at_b terms) w.b w'.b b b' a a'

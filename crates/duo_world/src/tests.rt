@@ -22,7 +22,20 @@ const OFFER: &[u8] = b"\x94\x00\x01\x01\xc4\x04\x92\xa1\x61\x08";
 /// More than is ever in flight.
 const ALL: u64 = 1_000_000;
 
-/// What a step answers, but for its events.
+/// What a row does at its side. A delivery is of all that is in flight.
+#[derive(Clone, Copy)]
+enum Move {
+    Offer(&'static str, u32),
+    Accept(ChannelKey, u32),
+    Write(ChannelKey, &'static [u8]),
+    Read(ChannelKey, u32),
+    Complete(ChannelKey),
+    Terminate(ChannelKey),
+    Deliver,
+    End,
+}
+
+/// What that answers, but for its events.
 #[derive(Clone, Copy)]
 enum Told {
     Done,
@@ -34,44 +47,116 @@ enum Told {
 }
 
 /// A step, what it answers, with which events, and the bytes that its side emits.
-#[derive(Drop)]
+#[derive(Clone, Copy)]
 struct Row {
-    step: Step,
-    told: Told,
-    events: &'static [EndEvent],
-    emits: &'static [u8],
-}
-
-fn call(
     side: Side,
-    call: Call,
+    makes: Move,
     told: Told,
     events: &'static [EndEvent],
     emits: &'static [u8],
-) -> Row {
-    Row {
-        step: Step::Call(side, call),
-        told,
-        events,
-        emits,
-    }
 }
 
-fn delivery(side: Side, count: u64, events: &'static [EndEvent], emits: &'static [u8]) -> Row {
-    Row {
-        step: Step::Deliver(side, ALL),
-        told: Told::Delivered(count),
-        events,
-        emits,
-    }
+macro_rules! row {
+    ($side:ident: $makes:expr => $told:expr, [$($event:expr),*], $emits:expr) => {
+        Row {
+            side: Side::$side,
+            makes: $makes,
+            told: $told,
+            events: &[$($event),*],
+            emits: $emits,
+        }
+    };
 }
 
-fn offer(alloc: Global, name: &str, window: u32) -> Result<Call, OutOfMemory> {
-    Ok(Call::Offer(Text::from_str(alloc, name)?, window))
-}
+/// A channel is made live, with the windows 8 of A and 4 of B.
+const LIVE: [Row; 4] = [
+    row!(A: Move::Offer("a", 8) => Told::Made(FIRST), [], OFFER),
+    row!(B: Move::Deliver => Told::Delivered(10), [EndEvent::Mux(MuxEvent::Offered(FIRST_AT_B))], b""),
+    row!(B: Move::Accept(FIRST_AT_B, 4) => Told::Done, [], b"\x94\x01\x01\xff\xc4\x02\x91\x04"),
+    row!(A: Move::Deliver => Told::Delivered(8), [EndEvent::Mux(MuxEvent::Accepted(FIRST))], b""),
+];
 
-fn write(alloc: Global, key: ChannelKey, bytes: &[u8]) -> Result<Call, OutOfMemory> {
-    Ok(Call::Write(key, Blob::from_bytes(alloc, bytes)?))
+/// On it content goes as far as the window and what was acknowledged.
+const CREDIT: [Row; 6] = [
+    row!(A: Move::Write(FIRST, b"hello") => Told::Done, [], b"\x94\x02\x01\x01\xc4\x04hell"),
+    row!(B: Move::Deliver => Told::Delivered(10), [EndEvent::Mux(MuxEvent::Content(FIRST_AT_B, 4))], b""),
+    row!(B: Move::Read(FIRST_AT_B, 2) => Told::Bytes(b"he"), [], b"\x94\x05\x01\xff\xc4\x02\x91\x02"),
+    row!(A: Move::Deliver => Told::Delivered(8), [EndEvent::Mux(MuxEvent::Credit(FIRST, 2))], b"\x94\x02\x01\x01\xc4\x01o"),
+    row!(B: Move::Deliver => Told::Delivered(7), [EndEvent::Mux(MuxEvent::Content(FIRST_AT_B, 1))], b""),
+    row!(B: Move::Read(FIRST_AT_B, 10) => Told::Bytes(b"llo"), [], b"\x94\x05\x01\xff\xc4\x02\x91\x03"),
+];
+
+/// Terminated by A, while content of B is on its way.
+const CROSSING: [Row; 6] = [
+    row!(A: Move::Terminate(FIRST) => Told::Done, [], b"\x93\x04\x01\x01"),
+    row!(B: Move::Write(FIRST_AT_B, b"x") => Told::Done, [], b"\x94\x02\x01\xff\xc4\x01x"),
+    row!(A: Move::Deliver => Told::Delivered(7), [EndEvent::Mux(MuxEvent::Ignored(FIRST))], b""),
+    row!(B: Move::Deliver => Told::Delivered(4), [EndEvent::Mux(MuxEvent::Closed(FIRST_AT_B))], b"\x93\x04\x01\xff"),
+    row!(A: Move::Deliver => Told::Delivered(4), [EndEvent::Mux(MuxEvent::Closed(FIRST))], b""),
+    row!(A: Move::Write(FIRST, b"\x00") => Told::Refused(Refusal::NoChannel), [], b""),
+];
+
+/// Completed by both.
+const COMPLETIONS: [Row; 5] = [
+    row!(A: Move::Complete(FIRST) => Told::Done, [], b"\x93\x03\x01\x01"),
+    row!(B: Move::Complete(FIRST_AT_B) => Told::Done, [], b"\x93\x03\x01\xff"),
+    row!(B: Move::Deliver => Told::Delivered(4), [EndEvent::Mux(MuxEvent::Completed(FIRST_AT_B))], b"\x93\x04\x01\xff"),
+    row!(A: Move::Deliver => Told::Delivered(8), [EndEvent::Mux(MuxEvent::Completed(FIRST)), EndEvent::Mux(MuxEvent::Closed(FIRST))], b"\x93\x04\x01\x01"),
+    row!(B: Move::Deliver => Told::Delivered(4), [EndEvent::Mux(MuxEvent::Closed(FIRST_AT_B))], b""),
+];
+
+const INPUT_ENDED: Told = Told::Refused(Refusal::Ended(Cause::InputEnded));
+
+/// The stream into B ends, later that into A.
+const ENDS: [Row; 8] = [
+    row!(A: Move::Write(FIRST, b"hello") => Told::Done, [], b"\x94\x02\x01\x01\xc4\x04hell"),
+    row!(B: Move::End => Told::Ended, [], b""),
+    row!(B: Move::Deliver => Told::Delivered(0), [], b""),
+    row!(B: Move::Read(FIRST_AT_B, 10) => Told::Bytes(b""), [], b""),
+    row!(B: Move::Terminate(FIRST_AT_B) => INPUT_ENDED, [], b""),
+    row!(A: Move::Terminate(FIRST) => Told::Done, [], b"\x93\x04\x01\x01"),
+    row!(A: Move::End => Told::Ended, [], b""),
+    row!(A: Move::Complete(FIRST) => INPUT_ENDED, [], b""),
+];
+
+/// In version 2, where A has the greater nonce.
+const GREETINGS: [Row; 3] = [
+    row!(A: Move::Deliver => Told::Delivered(22), [EndEvent::Mux(MuxEvent::Ready)], b""),
+    row!(B: Move::Deliver => Told::Delivered(22), [EndEvent::Mux(MuxEvent::Ready)], b""),
+    row!(A: Move::Offer("a", 8) => Told::Made(FIRST), [], b"\x93\x00\x01\xc4\x04\x92\xa1\x61\x08"),
+];
+
+const SAME_NONCE: Cause = Cause::Refused(Place(6), Reason::SameNonce);
+
+/// In version 2, where both have the same nonce.
+const SAME_NONCES: [Row; 2] = [
+    row!(B: Move::Deliver => Told::Delivered(22), [EndEvent::Ended(SAME_NONCE)], b""),
+    row!(B: Move::Offer("a", 8) => Told::Refused(Refusal::Ended(SAME_NONCE)), [], b""),
+];
+
+/// Two live channels, of which B gave the first the window 1.
+const TWO: [Row; 7] = [
+    row!(A: Move::Offer("a", 8) => Told::Made(FIRST), [], OFFER),
+    row!(A: Move::Offer("a", 8) => Told::Made(SECOND), [], b"\x94\x00\x02\x01\xc4\x04\x92\xa1\x61\x08"),
+    row!(B: Move::Deliver => Told::Delivered(20), [EndEvent::Mux(MuxEvent::Offered(FIRST_AT_B)), EndEvent::Mux(MuxEvent::Offered(SECOND_AT_B))], b""),
+    row!(B: Move::Accept(FIRST_AT_B, 1) => Told::Done, [], b"\x94\x01\x01\xff\xc4\x02\x91\x01"),
+    row!(B: Move::Accept(SECOND_AT_B, 102_400) => Told::Done, [], b"\x94\x01\x02\xff\xc4\x06\x91\xce\x00\x01\x90\x00"),
+    row!(A: Move::Deliver => Told::Delivered(20), [EndEvent::Mux(MuxEvent::Accepted(FIRST)), EndEvent::Mux(MuxEvent::Accepted(SECOND))], b""),
+    row!(A: Move::Write(FIRST, b"ab") => Told::Done, [], b"\x94\x02\x01\x01\xc4\x01a"),
+];
+
+fn step_of(alloc: Global, side: Side, makes: Move) -> Result<Step, OutOfMemory> {
+    let call = match makes {
+        Move::Offer(name, window) => Call::Offer(Text::from_str(alloc, name)?, window),
+        Move::Accept(key, window) => Call::Accept(key, window),
+        Move::Write(key, bytes) => Call::Write(key, Blob::from_bytes(alloc, bytes)?),
+        Move::Read(key, max) => Call::Read(key, max),
+        Move::Complete(key) => Call::Complete(key),
+        Move::Terminate(key) => Call::Terminate(key),
+        Move::Deliver => return Ok(Step::Deliver(side, ALL)),
+        Move::End => return Ok(Step::End(side)),
+    };
+    Ok(Step::Call(side, call))
 }
 
 fn is_reply(reply: &Reply, told: Told) -> bool {
@@ -86,11 +171,11 @@ fn is_reply(reply: &Reply, told: Told) -> bool {
 
 fn is_answer(answer: &DuoAnswer, told: Told, expected: &[EndEvent]) -> bool {
     match (answer, told) {
-        (DuoAnswer::Replied(reply, events), told) => {
-            is_reply(reply, told) && events.as_slice() == expected
-        }
         (DuoAnswer::Delivered(count, events), Told::Delivered(other)) => {
             *count == other && events.as_slice() == expected
+        }
+        (DuoAnswer::Replied(reply, events), told) => {
+            is_reply(reply, told) && events.as_slice() == expected
         }
         (DuoAnswer::Ended, Told::Ended) => true,
         _ => false,
@@ -104,33 +189,58 @@ fn other(side: Side) -> Side {
     }
 }
 
-fn side_of(step: &Step) -> Side {
-    match step {
-        Step::Call(side, _) | Step::Deliver(side, _) | Step::End(side) => *side,
-    }
-}
-
-fn holds(duo: &mut Duo, row: Row) -> bool {
-    let Row {
-        step,
-        told,
-        events,
-        emits,
-    } = row;
-    let to = other(side_of(&step));
+fn holds(alloc: Global, duo: &mut Duo, row: &Row) -> Result<bool, OutOfMemory> {
+    let to = other(row.side);
     let before = duo.in_flight(to).len();
-    let answer = duo.step(step);
-    is_answer(&answer, told, events) && duo.in_flight(to).get(before..) == Some(emits)
+    let answer = duo.step(step_of(alloc, row.side, row.makes)?);
+    Ok(
+        is_answer(&answer, row.told, row.events)
+            && duo.in_flight(to).get(before..) == Some(row.emits),
+    )
 }
 
 /// The first of the rows that doesn't hold.
-fn first_wrong(duo: &mut Duo, rows: Vec<Row>) -> Option<usize> {
-    for (i, row) in rows.into_iter().enumerate() {
-        if !holds(duo, row) {
-            return Some(i);
+fn first_wrong(alloc: Global, duo: &mut Duo, rows: &[Row]) -> Result<Option<usize>, OutOfMemory> {
+    for (i, row) in rows.iter().enumerate() {
+        if !holds(alloc, duo, row)? {
+            return Ok(Some(i));
         }
     }
-    None
+    Ok(None)
+}
+
+/// The first wrong one of rows that begin with one live channel.
+fn wrong_on_channel(alloc: Global, rows: &[Row]) -> Result<Option<usize>, OutOfMemory> {
+    let mut duo = Duo::start(alloc, Version::Three, [[0; 16]; 2])?;
+    first_wrong(alloc, &mut duo, &LIVE)?;
+    first_wrong(alloc, &mut duo, rows)
+}
+
+#[test]
+fn rows_on_one_channel(rt: HostRuntime) -> Result<(), Fail> {
+    for rows in [&CREDIT[..], &CROSSING[..], &COMPLETIONS[..], &ENDS[..]] {
+        assert_eq!(rt; wrong_on_channel(rt.alloc(), rows)?, None);
+    }
+    Ok(())
+}
+
+/// The first wrong one of rows that two ends of version 2 begin.
+fn wrong_in_two(
+    alloc: Global,
+    nonces: [[u8; 16]; 2],
+    rows: &[Row],
+) -> Result<Option<usize>, OutOfMemory> {
+    let mut duo = Duo::start(alloc, Version::Two, nonces)?;
+    first_wrong(alloc, &mut duo, rows)
+}
+
+#[test]
+fn rows_of_version_two(rt: HostRuntime) -> Result<(), Fail> {
+    let alloc = rt.alloc();
+    let nonce = [0, 1, 2, 3, 4, 5, 6, 7, 8, 9, 10, 11, 12, 13, 14, 15];
+    assert_eq!(rt; wrong_in_two(alloc, [[1; 16], [0; 16]], &GREETINGS)?, None);
+    assert_eq!(rt; wrong_in_two(alloc, [nonce, nonce], &SAME_NONCES)?, None);
+    Ok(())
 }
 
 fn make(duo: &mut Duo, step: Step) -> Result<(), OutOfMemory> {
@@ -138,264 +248,6 @@ fn make(duo: &mut Duo, step: Step) -> Result<(), OutOfMemory> {
         DuoAnswer::OutOfMemory => Err(OutOfMemory),
         _ => Ok(()),
     }
-}
-
-/// Makes a channel that A offers with the first window, and B accepts with the second, live.
-fn open(
-    alloc: Global,
-    duo: &mut Duo,
-    key: ChannelKey,
-    windows: (u32, u32),
-) -> Result<(), OutOfMemory> {
-    make(duo, Step::Call(Side::A, offer(alloc, "a", windows.0)?))?;
-    make(duo, Step::Deliver(Side::B, ALL))?;
-    make(duo, Step::Call(Side::B, Call::Accept(key, windows.1)))?;
-    make(duo, Step::Deliver(Side::A, ALL))
-}
-
-fn one_channel(alloc: Global) -> Result<Duo, OutOfMemory> {
-    let mut duo = Duo::start(alloc, Version::Three, [[0; 16]; 2])?;
-    open(alloc, &mut duo, FIRST_AT_B, (8, 4))?;
-    Ok(duo)
-}
-
-#[test]
-fn content_goes_by_credit(rt: HostRuntime) -> Result<(), Fail> {
-    let alloc = rt.alloc();
-    let mut duo = Duo::start(alloc, Version::Three, [[0; 16]; 2])?;
-    let rows = vec![in alloc;
-        call(
-            Side::A,
-            offer(alloc, "a", 8)?,
-            Told::Made(FIRST),
-            &[],
-            OFFER
-        ),
-        delivery(
-            Side::B,
-            10,
-            &[EndEvent::Mux(MuxEvent::Offered(FIRST_AT_B))],
-            b""
-        ),
-        call(
-            Side::B,
-            Call::Accept(FIRST_AT_B, 4),
-            Told::Done,
-            &[],
-            b"\x94\x01\x01\xff\xc4\x02\x91\x04"
-        ),
-        delivery(Side::A, 8, &[EndEvent::Mux(MuxEvent::Accepted(FIRST))], b""),
-        call(
-            Side::A,
-            write(alloc, FIRST, b"hello")?,
-            Told::Done,
-            &[],
-            b"\x94\x02\x01\x01\xc4\x04hell"
-        ),
-        delivery(
-            Side::B,
-            10,
-            &[EndEvent::Mux(MuxEvent::Content(FIRST_AT_B, 4))],
-            b""
-        ),
-        call(
-            Side::B,
-            Call::Read(FIRST_AT_B, 2),
-            Told::Bytes(b"he"),
-            &[],
-            b"\x94\x05\x01\xff\xc4\x02\x91\x02"
-        ),
-        delivery(
-            Side::A,
-            8,
-            &[EndEvent::Mux(MuxEvent::Credit(FIRST, 2))],
-            b"\x94\x02\x01\x01\xc4\x01o"
-        ),
-        delivery(
-            Side::B,
-            7,
-            &[EndEvent::Mux(MuxEvent::Content(FIRST_AT_B, 1))],
-            b""
-        ),
-        call(
-            Side::B,
-            Call::Read(FIRST_AT_B, 10),
-            Told::Bytes(b"llo"),
-            &[],
-            b"\x94\x05\x01\xff\xc4\x02\x91\x03"
-        ),
-    ]?;
-    assert_eq!(rt; first_wrong(&mut duo, rows), None);
-    Ok(())
-}
-
-fn end(side: Side) -> Row {
-    Row {
-        step: Step::End(side),
-        told: Told::Ended,
-        events: &[],
-        emits: b"",
-    }
-}
-
-#[test]
-fn terminations_cross(rt: HostRuntime) -> Result<(), Fail> {
-    let alloc = rt.alloc();
-    let mut duo = one_channel(alloc)?;
-    let rows = vec![in alloc;
-        call(
-            Side::A,
-            Call::Terminate(FIRST),
-            Told::Done,
-            &[],
-            b"\x93\x04\x01\x01"
-        ),
-        call(
-            Side::B,
-            write(alloc, FIRST_AT_B, b"x")?,
-            Told::Done,
-            &[],
-            b"\x94\x02\x01\xff\xc4\x01x"
-        ),
-        delivery(Side::A, 7, &[EndEvent::Mux(MuxEvent::Ignored(FIRST))], b""),
-        delivery(
-            Side::B,
-            4,
-            &[EndEvent::Mux(MuxEvent::Closed(FIRST_AT_B))],
-            b"\x93\x04\x01\xff"
-        ),
-        delivery(Side::A, 4, &[EndEvent::Mux(MuxEvent::Closed(FIRST))], b""),
-        call(
-            Side::A,
-            write(alloc, FIRST, b"\x00")?,
-            Told::Refused(Refusal::NoChannel),
-            &[],
-            b""
-        ),
-    ]?;
-    assert_eq!(rt; first_wrong(&mut duo, rows), None);
-    Ok(())
-}
-
-#[test]
-fn completions_close(rt: HostRuntime) -> Result<(), Fail> {
-    let alloc = rt.alloc();
-    let mut duo = one_channel(alloc)?;
-    let rows = vec![in alloc;
-        call(
-            Side::A,
-            Call::Complete(FIRST),
-            Told::Done,
-            &[],
-            b"\x93\x03\x01\x01"
-        ),
-        call(
-            Side::B,
-            Call::Complete(FIRST_AT_B),
-            Told::Done,
-            &[],
-            b"\x93\x03\x01\xff"
-        ),
-        delivery(
-            Side::B,
-            4,
-            &[EndEvent::Mux(MuxEvent::Completed(FIRST_AT_B))],
-            b"\x93\x04\x01\xff"
-        ),
-        delivery(
-            Side::A,
-            8,
-            &[
-                EndEvent::Mux(MuxEvent::Completed(FIRST)),
-                EndEvent::Mux(MuxEvent::Closed(FIRST))
-            ],
-            b"\x93\x04\x01\x01"
-        ),
-        delivery(
-            Side::B,
-            4,
-            &[EndEvent::Mux(MuxEvent::Closed(FIRST_AT_B))],
-            b""
-        ),
-    ]?;
-    assert_eq!(rt; first_wrong(&mut duo, rows), None);
-    Ok(())
-}
-
-/// The end of a stream ends the side that it goes to, and not the other.
-#[test]
-fn streams_end(rt: HostRuntime) -> Result<(), Fail> {
-    let alloc = rt.alloc();
-    let mut duo = one_channel(alloc)?;
-    let ended = Told::Refused(Refusal::Ended(Cause::InputEnded));
-    let rows = vec![in alloc;
-        call(
-            Side::A,
-            write(alloc, FIRST, b"hello")?,
-            Told::Done,
-            &[],
-            b"\x94\x02\x01\x01\xc4\x04hell"
-        ),
-        end(Side::B),
-        delivery(Side::B, 0, &[], b""),
-        call(
-            Side::B,
-            Call::Read(FIRST_AT_B, 10),
-            Told::Bytes(b""),
-            &[],
-            b""
-        ),
-        call(Side::B, Call::Terminate(FIRST_AT_B), ended, &[], b""),
-        call(
-            Side::A,
-            Call::Terminate(FIRST),
-            Told::Done,
-            &[],
-            b"\x93\x04\x01\x01"
-        ),
-        end(Side::A),
-        call(Side::A, Call::Read(FIRST, 10), Told::Bytes(b""), &[], b""),
-    ]?;
-    assert_eq!(rt; first_wrong(&mut duo, rows), None);
-    Ok(())
-}
-
-#[test]
-fn handshakes_draw_the_sides(rt: HostRuntime) -> Result<(), Fail> {
-    let alloc = rt.alloc();
-    let mut duo = Duo::start(alloc, Version::Two, [[1; 16], [0; 16]])?;
-    let rows = vec![in alloc;
-        delivery(Side::A, 22, &[EndEvent::Mux(MuxEvent::Ready)], b""),
-        delivery(Side::B, 22, &[EndEvent::Mux(MuxEvent::Ready)], b""),
-        call(
-            Side::A,
-            offer(alloc, "a", 8)?,
-            Told::Made(FIRST),
-            &[],
-            b"\x93\x00\x01\xc4\x04\x92\xa1\x61\x08"
-        ),
-    ]?;
-    assert_eq!(rt; first_wrong(&mut duo, rows), None);
-    Ok(())
-}
-
-#[test]
-fn equal_nonces_end(rt: HostRuntime) -> Result<(), Fail> {
-    let alloc = rt.alloc();
-    let nonce = [0, 1, 2, 3, 4, 5, 6, 7, 8, 9, 10, 11, 12, 13, 14, 15];
-    let mut duo = Duo::start(alloc, Version::Two, [nonce, nonce])?;
-    let ended = Told::Refused(Refusal::Ended(Cause::Refused(Place(6), Reason::SameNonce)));
-    let rows = vec![in alloc;
-        delivery(
-            Side::B,
-            22,
-            &[EndEvent::Ended(Cause::Refused(Place(6), Reason::SameNonce))],
-            b""
-        ),
-        call(Side::B, offer(alloc, "a", 8)?, ended, &[], b""),
-    ]?;
-    assert_eq!(rt; first_wrong(&mut duo, rows), None);
-    Ok(())
 }
 
 /// Adds so many bytes `z`.
@@ -415,37 +267,27 @@ fn two_frames(alloc: Global) -> Result<Vec<u8>, OutOfMemory> {
     Ok(bytes)
 }
 
-/// Whether 30,000 bytes on the second channel go in two frames.
-fn splits(alloc: Global, duo: &mut Duo) -> Result<bool, OutOfMemory> {
+fn write_many(alloc: Global) -> Result<Call, OutOfMemory> {
     let mut bytes = Vec::new(alloc);
     fill(&mut bytes, 30_000)?;
+    Ok(Call::Write(SECOND, Blob::from_bytes(alloc, &bytes)?))
+}
+
+/// A channel that lacks credit holds up no other, on which 30,000 bytes go in two frames.
+fn splits(alloc: Global) -> Result<bool, OutOfMemory> {
+    let mut duo = Duo::start(alloc, Version::Three, [[0; 16]; 2])?;
+    if first_wrong(alloc, &mut duo, &TWO)?.is_some() {
+        return Ok(false);
+    }
     let frames = two_frames(alloc)?;
     let before = duo.in_flight(Side::B).len();
-    make(
-        duo,
-        Step::Call(Side::A, write(alloc, SECOND, bytes.as_slice())?),
-    )?;
+    make(&mut duo, Step::Call(Side::A, write_many(alloc)?))?;
     Ok(duo.in_flight(Side::B).get(before..) == Some(frames.as_slice()))
 }
 
-/// A channel that lacks credit holds up no other.
 #[test]
 fn channels_are_apart(rt: HostRuntime) -> Result<(), Fail> {
-    let alloc = rt.alloc();
-    let mut duo = Duo::start(alloc, Version::Three, [[0; 16]; 2])?;
-    open(alloc, &mut duo, FIRST_AT_B, (8, 1))?;
-    open(alloc, &mut duo, SECOND_AT_B, (8, 102_400))?;
-    let rows = vec![in alloc;
-        call(
-            Side::A,
-            write(alloc, FIRST, b"ab")?,
-            Told::Done,
-            &[],
-            b"\x94\x02\x01\x01\xc4\x01a"
-        ),
-    ]?;
-    assert_eq!(rt; first_wrong(&mut duo, rows), None);
-    assert!(rt; splits(alloc, &mut duo)?);
+    assert!(rt; splits(rt.alloc())?);
     Ok(())
 }
 
@@ -457,18 +299,27 @@ fn deliver_all(duo: &mut Duo, side: Side, count: u64) -> Result<(), OutOfMemory>
     Ok(())
 }
 
-/// The tallies of a channel at A and at B, after content that was read in two parts.
+/// Makes the steps of these rows, and delivers so many bytes at once where a row delivers.
+fn make_in_parts(
+    alloc: Global,
+    duo: &mut Duo,
+    rows: &[Row],
+    count: u64,
+) -> Result<(), OutOfMemory> {
+    for row in rows {
+        match row.makes {
+            Move::Deliver => deliver_all(duo, row.side, count)?,
+            makes => make(duo, step_of(alloc, row.side, makes)?)?,
+        }
+    }
+    Ok(())
+}
+
+/// The tallies of the channel at A and at B, after its content was delivered in parts.
 fn tallies(alloc: Global, count: u64) -> Result<(Option<Tally>, Option<Tally>), OutOfMemory> {
-    let mut duo = one_channel(alloc)?;
-    make(
-        &mut duo,
-        Step::Call(Side::A, write(alloc, FIRST, b"hello")?),
-    )?;
-    deliver_all(&mut duo, Side::B, count)?;
-    make(&mut duo, Step::Call(Side::B, Call::Read(FIRST_AT_B, 2)))?;
-    deliver_all(&mut duo, Side::A, count)?;
-    deliver_all(&mut duo, Side::B, count)?;
-    make(&mut duo, Step::Call(Side::B, Call::Read(FIRST_AT_B, 10)))?;
+    let mut duo = Duo::start(alloc, Version::Three, [[0; 16]; 2])?;
+    make_in_parts(alloc, &mut duo, &LIVE, count)?;
+    make_in_parts(alloc, &mut duo, &CREDIT, count)?;
     Ok((
         duo.end(Side::A).tally(FIRST),
         duo.end(Side::B).tally(FIRST_AT_B),
@@ -499,7 +350,7 @@ fn bytes_one_by_one_leave_the_same(rt: HostRuntime) -> Result<(), Fail> {
 
 fn run_of_one(alloc: Global) -> Result<Duo, OutOfMemory> {
     let mut steps = StepList::new(alloc);
-    steps.push(Step::Call(Side::A, offer(alloc, "a", 8)?))?;
+    steps.push(step_of(alloc, Side::A, Move::Offer("a", 8))?)?;
     Duo::run(alloc, Version::Three, [[0; 16]; 2], steps)
 }
 

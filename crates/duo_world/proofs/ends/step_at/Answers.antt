@@ -1,5 +1,4 @@
 use Rattle.std.proofs.Common.{sym, subst, IfOk}
-use Rattle.mux_run.specs.declared.steps.Step.TheVariants as variant
 use Rattle.mux_run.specs.declared.answers.DuoAnswer.TheVariants as duo
 use Rattle.duo_world.specs.Holding.{place_of, rest_of}
 use Rattle.duo_world.specs.Stepping.{StepsAt}
