@@ -2,7 +2,6 @@
 use Rattle.std.proofs.Common.{◌≡◌, ◌≢◌, ℕ, ◌+◌, ◌⊎◌, inl, inr, true, List, [], ◌∷◌, ◌++◌, length, map, refl, Err, sym, ap, ap₂, subst, ◌∙◌, arith, append_assoc}
 use Rattle.std.specs.Prelude.{◌↔◌}
 use Rattle.std.specs.List.{list_all, flat_map, join_with_byte}
-use Rattle.std.specs.Str.{is_utf8}
 use Rattle.std.proofs.lemmas.Bool.{and_parts}
 use Rattle.std.proofs.lemmas.List.{append-nil}
 use Rattle.std.proofs.lemmas.List.Folds.{list_all-append}
@@ -11,13 +10,13 @@ use Rattle.mux_run.specs.Run.{Terms}
 use Rattle.mux_run.specs.declared.steps.Step.{Step}
 use Rattle.script.specs.declared.reason.ScriptReason.{ScriptReason}
 use Rattle.script.specs.declared.reason.ScriptReason.TheVariants as reason
-use Rattle.text_words.specs.Written.{is_line_text, stands_in_line}
+use Rattle.text_words.specs.Written.{is_line_text}
 use Rattle.text_words.specs.Reading.{words_of}
 use Rattle.text_words.proofs.Joined.{line-words}
 use Rattle.script.specs.Spelling.{StepLine, AreTerms, AreScripted, is_spellable, line_text, line_words, step_lines, steps_of, filled_in, script_text, head_lines, head_text}
 use Rattle.script.specs.Lines.{TextLine, lines_of, line_bytes}
 use Rattle.script.specs.Steps.{step_in, begins_step}
-use Rattle.script.specs.Found.{reads, breaks, steps_from, script_from, script_in, BreaksHead, BreaksBehind, IsScript, IsScriptOf}
+use Rattle.script.specs.Found.{reads, breaks, steps_from, script_from, script_in, BreaksHead, BreaksBehind, IsScriptOf}
 use Rattle.script.proofs.LineTexts.{lacks_feed, lines_of-lack, flat_map-lines_of, whole_line, lines_of-lines, flat_map-lines}
 use Rattle.script.proofs.StepLines.{line_text-words}
 use Rattle.script.proofs.StepWords.{step_in-words, step_in-ok, bad_word-begins, bad_or_step}

@@ -1,20 +1,18 @@
 -- The lines of steps, written and read.
-use Rattle.std.proofs.Common.{◌≡◌, ℕ, suc, ◌+◌, ◌<◌, ◌≤◌, true, List, [], ◌∷◌, ◌++◌, length, map, length-append, refl, Result, Ok, Err, sym, ap, ap₂, subst, ◌∙◌, arith, append_assoc, add-zero}
+use Rattle.std.proofs.Common.{◌≡◌, ℕ, suc, ◌+◌, true, List, [], ◌∷◌, ◌++◌, length, length-append, refl, Result, Ok, Err, sym, ap, ap₂, ◌∙◌, arith, append_assoc, add-zero}
 use Rattle.std.specs.List.{list_all, flat_map}
 use Rattle.std.proofs.lemmas.Bool.{and_parts}
 use Rattle.std.proofs.lemmas.List.{append-nil, length-map, map-append}
 use Rattle.std.proofs.lemmas.List.Concat.{flat_map-append}
 use Rattle.mux_run.specs.declared.steps.Step.{Step}
 use Rattle.mux_run.specs.Run.{Terms}
-use Rattle.text_words.specs.Written.{is_line_text, stands_in_line}
+use Rattle.text_words.specs.Written.{stands_in_line}
 use Rattle.std.specs.Str.{is_utf8}
 use Rattle.script.specs.declared.line_step.LineStep.{LineStep}
 use Rattle.script.specs.declared.reason.ScriptReason.{ScriptReason}
-use Rattle.script.specs.Limits.{most_steps, most_filled}
 use Rattle.script.specs.Lines.{TextLine, lines_of, line_bytes}
 use Rattle.script.specs.Spelling.{StepLine, AreScripted, line_text, step_lines, ended, step_of, steps_of, filled_by, filled_in}
 use Rattle.script.specs.Steps.{step_after}
-use Rattle.script.specs.Table.{meaning}
 use Rattle.script.specs.Found.{Found, reads, breaks, behind, steps_from}
 use Rattle.script.proofs.Counts.{filled_in-append, MayStand, one_more, next_stands}
 use Rattle.script.proofs.LineTexts.{whole_line, lacks_feed, lines_of-front}

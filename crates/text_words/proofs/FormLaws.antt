@@ -1,5 +1,5 @@
 -- The words of each form, and of a list of forms: what is written is read, what is read is written so, and it is one word.
-use Rattle.std.proofs.Common.{◌≡◌, ℕ, leb, eqb, Bool, true, ◌&&◌, List, [], ◌∷◌, length, refl, Option, Some, None, ap₂, subst}
+use Rattle.std.proofs.Common.{◌≡◌, ℕ, leb, eqb, true, List, [], ◌∷◌, length, refl, Some, ap₂, subst}
 use Rattle.std.specs.List.{list_all}
 use Rattle.std.proofs.lemmas.Bool.{and_parts}
 use Rattle.std.proofs.lemmas.Option.{option_and_then_some}

@@ -1,6 +1,5 @@
 -- Each word that is written is a text, and one word.
-use Rattle.std.proofs.Common.{◌≡◌, ℕ, ◌<◌, ◌/◌, ◌%◌, Bool, true, false, eqb, ltb, ◌||◌, ◌&&◌, inl, inr, List, [], ◌∷◌, ◌++◌, slice_index, refl, codes, arith, lit<}
-use Rattle.std.specs.Prelude.{IsUtf8}
+use Rattle.std.proofs.Common.{◌≡◌, ℕ, ◌<◌, ◌/◌, ◌%◌, Bool, true, false, eqb, ltb, ◌||◌, ◌&&◌, inl, inr, List, [], ◌∷◌, slice_index, refl, arith}
 use Rattle.std.specs.Fmt.{decimal}
 use Rattle.std.specs.Char.{digit_value}
 use Rattle.std.specs.List.{list_all}
