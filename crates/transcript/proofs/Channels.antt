@@ -1,5 +1,5 @@
 -- Lines of channels, one after the other.
-use Rattle.std.specs.Prelude.{if◌then◌else◌, not}
+use Rattle.std.specs.Prelude.{if◌then◌else◌}
 use Rattle.std.specs.List.{flat_map}
 use Rattle.std.proofs.Common.{◌≡◌, ℕ, suc, ◌+◌, ◌<◌, ◌≤◌, List, [], ◌∷◌, ◌++◌, length, drop, filter, Bool, true, false, Option, Some, None, slice_get, refl, sym, ◌∙◌, ap, arith, append_assoc, add-one, drop-cons, inl, inr}
 use Rattle.std.proofs.lemmas.List.{append-nil, drop_all}
@@ -8,9 +8,6 @@ use Rattle.wire_base.specs.declared.state.Cause.{Cause}
 use Rattle.mux_end.specs.Stands.{state_by}
 use Rattle.transcript.specs.Report.{shown_state, state_text}
 use Rattle.mux_items.specs.declared.channel.ChannelKey.{ChannelKey}
-use Rattle.mux_items.specs.Items.{Item}
-use Rattle.mux_items.specs.Kept.{keys}
-use Rattle.mux_items.specs.Views.{by_id, known_keys}
 
 pub drop_at_some : (xs : List ChannelKey) (i : ℕ) (x : ChannelKey) → slice_get xs i ≡ Some x → drop i xs ≡ x ∷ drop (i + 1) xs
 drop_at_some xs i x e =
@@ -41,19 +38,6 @@ lines_more line test xs i k out now all here is before =
 pub lines_done : (line : ChannelKey → List ℕ) (test : ChannelKey → Bool) (xs : List ChannelKey) (i : ℕ) (out all : List ℕ) → drop i xs ≡ [] → out ++ flat_map line (filter test (drop i xs)) ≡ all → out ≡ all
 lines_done line test xs i out all none before =
     sym (append-nil out) ∙ (ap (λ ys. out ++ flat_map line (filter test ys)) (sym none) ∙ before)
-
-few_by : (c : ChannelKey) (b : Bool) → length (by_id (if b then c ∷ [] else []) ++ by_id (if not b then c ∷ [] else [])) ≤ 1
-few_by c true = omega arith
-few_by c false = omega arith
-
-few_known : (ks : List ChannelKey) → length ks ≤ 1 → length (by_id (filter (λ c. c.own) ks) ++ by_id (filter (λ c. not c.own) ks)) ≤ 1
-few_known [] few = omega arith
-few_known (c ∷ []) few = few_by c c.own
-few_known (c ∷ d ∷ ks) few = absurd (omega arith)
-
--- an end with one channel at most knows one at most
-pub known_few : (items : List Item) → length (keys items) ≤ 1 → length (known_keys items) ≤ 1
-known_few items few = few_known (keys items) few
 
 -- the state of an end that stands for items is told as these items say
 pub shown_state-is : (o : Option Cause) → shown_state (state_by o) ≡ state_text o

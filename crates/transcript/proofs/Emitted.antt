@@ -14,10 +14,11 @@ use Rattle.mux_run.specs.Answers.{answer}
 use Rattle.mux_run.proofs.Growing.{side_after_grown, out-grows}
 use Rattle.mux_run.proofs.Links.{run_from-push}
 use Rattle.mux_end.specs.Stands.{EndValue}
-use Rattle.duo_world.specs.Holding.{HalfStands, WorldStands, DuoState, StandsForRun, output_to}
+use Rattle.duo_world.specs.Holding.{StandsForSide, StandForWorld, DuoState, StandsForRun, output_to}
 use Rattle.duo_world.specs.Stepping.{IsStepped, Steps}
 use Rattle.mux_run.specs.declared.answers.DuoAnswer.TheVariants as duo
-use Rattle.transcript.specs.Words.{other_side, emitted_line}
+use Rattle.text_words.specs.Written.{other_side}
+use Rattle.transcript.specs.Words.{emitted_line}
 use Rattle.transcript.specs.Report.{answer_lines, newly_out, step_lines}
 
 -- a front of all that went out was taken away, and more goes out: what is left grows by it
@@ -38,7 +39,7 @@ emits_by v nonce before after more old new grown is = record {
   within = omega (arith, ap length is, length-append old.output more);
 }
 
-emits_at : (w : SideTerms) (s : Step) (x y : RunSide) (old new : EndValue) → HalfStands w old x y → HalfStands w new (side_after w s x y) y → EmitsInStep w.version w.own x.items (side_after w s x y).items old new
+emits_at : (w : SideTerms) (s : Step) (x y : RunSide) (old new : EndValue) → StandsForSide w old x y → StandsForSide w new (side_after w s x y) y → EmitsInStep w.version w.own x.items (side_after w s x y).items old new
 emits_at w s x y old new was is =
     let grown = (side_after_grown w s x y).1 in
     let more = out-grows w.version w.own grown.newer x.items in
@@ -56,9 +57,9 @@ pub record StepTold (terms : Terms) (k : ℕ) (s : Step) (w : World) (side : Sid
   pub text : decimal k ++ codes " " ++ answer_lines side result ++ emitted_line side (drop (length (output_to (other_side side) old)) (output_to (other_side side) new)) ≡ step_lines terms k s w
 
 told_at : (terms : Terms) (k : ℕ) (s : Step) (w : World) (side : Side) (result : DuoAnswer) (old new : DuoState) → side ≡ side_of s → result ≡ answer terms s w
-    → WorldStands terms old.a old.b w → WorldStands terms new.a new.b (happens_at terms side s w) → StepTold terms k s w side result old new
+    → StandForWorld terms old.a old.b w → StandForWorld terms new.a new.b (happens_at terms side s w) → StepTold terms k s w side result old new
 told_at terms k s w A result old new at is was now =
-    let e = emits_at (terms_at_a terms) s w.a w.b old.a new.a was.at_a now.at_a in
+    let e = emits_at (terms_at_a terms) s w.a w.b old.a new.a was.at_own now.at_own in
     let front = decimal k ++ codes " " in
     let after : happens terms s w ≡ happens_at terms A s w = ap (λ side. happens_at terms side s w) (sym at) in
     record {
@@ -72,7 +73,7 @@ told_at terms k s w A result old new at is was now =
           ∙ ap (λ u. front ++ answer_lines (side_of s) (answer terms s w) ++ emitted_line A (newly_out terms.version terms.nonce_a w.a.items u.a.items) ++ emitted_line B (newly_out terms.version terms.nonce_b w.b.items u.b.items)) (sym after)))));
     }
 told_at terms k s w B result old new at is was now =
-    let e = emits_at (terms_at_b terms) s w.b w.a old.b new.b was.at_b now.at_b in
+    let e = emits_at (terms_at_b terms) s w.b w.a old.b new.b was.at_peer now.at_peer in
     let front = decimal k ++ codes " " in
     let after : happens terms s w ≡ happens_at terms B s w = ap (λ side. happens_at terms side s w) (sym at) in
     record {
@@ -92,9 +93,9 @@ run_is old new s result made = ap (λ t. run t new.steps) made.terms_are ∙ (ap
 pub step_told : (k : ℕ) (s : Step) (side : Side) (result : DuoAnswer) (old new : DuoState) → side ≡ side_of s → StandsForRun old → IsStepped old new s result → StepTold old.terms k s (run old.terms old.steps) side result old new
 step_told k s side result old new at was made =
     let w = run old.terms old.steps in
-    let stands : WorldStands old.terms new.a new.b (run new.terms new.steps) = subst (λ t. WorldStands t new.a new.b (run new.terms new.steps)) made.terms_are made.stands in
-    let now : WorldStands old.terms new.a new.b (happens_at old.terms side s w) =
-    subst (λ u. WorldStands old.terms new.a new.b u) (run_is old new s result made ∙ ap (λ side. happens_at old.terms side s w) (sym at)) stands in
+    let stands : StandForWorld old.terms new.a new.b (run new.terms new.steps) = subst (λ t. StandForWorld t new.a new.b (run new.terms new.steps)) made.terms_are made.stands in
+    let now : StandForWorld old.terms new.a new.b (happens_at old.terms side s w) =
+    subst (λ u. StandForWorld old.terms new.a new.b u) (run_is old new s result made ∙ ap (λ side. happens_at old.terms side s w) (sym at)) stands in
     told_at old.terms k s w side result old new at made.reply_is was now
 
 -- a step that didn't want memory was made

@@ -1,31 +1,10 @@
 -- The lines of steps, one after the other.
-use Rattle.std.specs.Prelude.{cond}
-use Rattle.std.specs.List.{list_all}
-use Rattle.std.proofs.Common.{◌≡◌, ℕ, ◌+◌, ◌≤◌, List, [], ◌∷◌, ◌++◌, length, length-append, Bool, true, false, ◌&&◌, refl, sym, ◌∙◌, ap, subst, arith, append_assoc}
+use Rattle.std.proofs.Common.{◌≡◌, ℕ, ◌+◌, ◌≤◌, List, [], ◌∷◌, ◌++◌, length, length-append, refl, sym, ◌∙◌, ap, subst, arith, append_assoc}
 use Rattle.std.proofs.lemmas.List.{append-nil}
-use Rattle.std.proofs.lemmas.List.Sums.{sum_by-append}
-use Rattle.std.proofs.lemmas.List.Folds.{list_all-append}
 use Rattle.mux_run.specs.declared.steps.Step.{Step}
-use Rattle.mux_run.specs.Built.{AreBuilt, is_built_step, is_offer_step}
 use Rattle.mux_run.specs.Run.{Terms, happens, run, start}
 use Rattle.mux_run.proofs.Links.{run_from-push}
 use Rattle.transcript.specs.Report.{step_lines, steps_lines}
-
-and_first : (a b : Bool) → (a && b) ≡ true → a ≡ true
-and_first true b e = refl
-and_first false b e = e
-
--- the first of steps that are built are built
-pub built_front : (xs ys : List Step) → AreBuilt (xs ++ ys) → AreBuilt xs
-built_front xs ys b = record {
-  each = and_first (list_all is_built_step xs) (list_all is_built_step ys) (sym (list_all-append is_built_step xs ys) ∙ b.each);
-  one_offer = omega (arith, sum_by-append (λ x. cond (is_offer_step x) 1 0) xs ys, b.one_offer);
-}
-
--- the next of some steps that are built comes behind those before it
-pub built_next : (all xs ys rest : List Step) (s : Step) → rest ≡ s ∷ ys → xs ++ rest ≡ all → AreBuilt all → AreBuilt (xs ++ s ∷ [])
-built_next all xs ys rest s next is b =
-    built_front (xs ++ s ∷ []) ys (subst AreBuilt (sym is ∙ (ap (λ r. xs ++ r) next ∙ sym (append_assoc xs (s ∷ []) ys))) b)
 
 pub stored_next : (all xs ys rest now : List Step) (s : Step) → rest ≡ s ∷ ys → xs ++ rest ≡ all → now ≡ xs ++ s ∷ [] → now ++ ys ≡ all
 stored_next all xs ys rest now s next is made = ap (λ xs. xs ++ ys) made ∙ (append_assoc xs (s ∷ []) ys ∙ (ap (λ r. xs ++ r) (sym next) ∙ is))

@@ -7,7 +7,7 @@ use Rattle.mux_run.specs.declared.steps.Step.{Step}
 use Rattle.mux_run.specs.declared.steps.Side.TheVariants.{A, B}
 use Rattle.mux_run.specs.Run.{run, start}
 use Rattle.mux_run.specs.Safe.{IsSafeRun}
-use Rattle.duo_world.specs.Holding.{DuoState, WorldStands}
+use Rattle.duo_world.specs.Holding.{DuoState, StandForWorld}
 use Rattle.mux_end.specs.Stands.{EndValue, MuxStands}
 use Rattle.mux_items.specs.Items.{Item}
 use Rattle.mux_run.specs.declared.steps.Side.{Side}
@@ -18,13 +18,13 @@ use Rattle.transcript.specs.Ran.{HasMade, HasRun}
 -- before the first step the handshakes are on their way
 pub hello_a : (v : Version) (nonces : List (List ℕ)) (d : DuoState) → HasRun v nonces [] d → d.a.output ≡ hello d.terms.version d.terms.nonce_a
 hello_a v nonces d r =
-    let s : WorldStands d.terms d.a d.b (run d.terms []) = subst (λ steps. WorldStands d.terms d.a d.b (run d.terms steps)) r.stored r.stands in
-    s.at_a.output ∙ append-nil (hello d.terms.version d.terms.nonce_a)
+    let s : StandForWorld d.terms d.a d.b (run d.terms []) = subst (λ steps. StandForWorld d.terms d.a d.b (run d.terms steps)) r.stored r.stands in
+    s.at_own.output ∙ append-nil (hello d.terms.version d.terms.nonce_a)
 
 pub hello_b : (v : Version) (nonces : List (List ℕ)) (d : DuoState) → HasRun v nonces [] d → d.b.output ≡ hello d.terms.version d.terms.nonce_b
 hello_b v nonces d r =
-    let s : WorldStands d.terms d.a d.b (run d.terms []) = subst (λ steps. WorldStands d.terms d.a d.b (run d.terms steps)) r.stored r.stands in
-    s.at_b.output ∙ append-nil (hello d.terms.version d.terms.nonce_b)
+    let s : StandForWorld d.terms d.a d.b (run d.terms []) = subst (λ steps. StandForWorld d.terms d.a d.b (run d.terms steps)) r.stored r.stands in
+    s.at_peer.output ∙ append-nil (hello d.terms.version d.terms.nonce_b)
 
 -- all steps were made in a world that began so
 pub has_run : (v : Version) (nonces : List (List ℕ)) (steps : List Step) (old new : DuoState) → HasRun v nonces [] old → HasMade old.terms steps new → HasRun v nonces steps new
@@ -56,8 +56,8 @@ report_is v nonces steps old new all m₁ m₂ m₃ m₄ m₅ m₆ m₇ m₈ r m
     (h₃ ∙ ap (λ bs. m₂ ++ emitted_line B bs) (hello_b v nonces old r ∙ ap (λ t. hello t.version t.nonce_b) (sym m.terms_are)))
     (h₄ ∙ ap (λ t. m₃ ++ steps_lines t 1 start steps) (sym m.terms_are))
     h₅
-    (h₆ ∙ (ap (λ v. m₅ ++ summary v A (run t new.steps).a.items) m.stands.at_a.version ∙ ap (λ ss. m₅ ++ summary t.version A (run t ss).a.items) m.stored))
-    (h₇ ∙ (ap (λ v. m₆ ++ summary v B (run t new.steps).b.items) m.stands.at_b.version ∙ ap (λ ss. m₆ ++ summary t.version B (run t ss).b.items) m.stored))
+    (h₆ ∙ (ap (λ v. m₅ ++ summary v A (run t new.steps).a.items) m.stands.at_own.version ∙ ap (λ ss. m₅ ++ summary t.version A (run t ss).a.items) m.stored))
+    (h₇ ∙ (ap (λ v. m₆ ++ summary v B (run t new.steps).b.items) m.stands.at_peer.version ∙ ap (λ ss. m₆ ++ summary t.version B (run t ss).b.items) m.stored))
     h₈
 
 -- the summary of an end that is the one of a world

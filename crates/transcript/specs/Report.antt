@@ -18,7 +18,8 @@ use Rattle.mux_run.specs.declared.answers.DuoAnswer.{DuoAnswer}
 use Rattle.mux_run.specs.declared.answers.DuoAnswer.TheVariants as duo
 use Rattle.mux_run.specs.Run.{World, Terms, out, run, happens, side_of, start}
 use Rattle.mux_run.specs.Answers.{answer}
-use Rattle.transcript.specs.Words.{line_feed, side_text, channel_text, cause_text, phase_text, reply_text, event_line, emitted_line, offering_side}
+use Rattle.text_words.specs.Written.{line_feed, side_word, name_at, is_same_side}
+use Rattle.transcript.specs.Words.{channel_text, cause_text, phase_text, reply_text, event_line, emitted_line}
 
 -- what a step answered, and the lines of its events
 abbrev pub answer_lines : Side → DuoAnswer → List ℕ
@@ -61,20 +62,14 @@ tally_text t =
 
 abbrev pub channel_line_of : Side → ChannelKey → Option Tally → List ℕ
 channel_line_of side key None = []
-channel_line_of side key (Some t) = side_text side ++ codes " " ++ channel_text side key ++ codes " " ++ tally_text t ++ line_feed
+channel_line_of side key (Some t) = side_word side ++ codes " " ++ channel_text side key ++ codes " " ++ tally_text t ++ line_feed
 
 abbrev pub channel_line : Version → Side → List Item → ChannelKey → List ℕ
 channel_line v side items key = channel_line_of side key (tally_of v key items)
 
-abbrev pub same_side : Side → Side → Bool
-same_side A A = true
-same_side A B = false
-same_side B A = false
-same_side B B = true
-
 -- of these channels, as a side names them, those that another side, or itself, offered
 abbrev pub keys_of : (side offering : Side) → List ChannelKey → List ChannelKey
-keys_of side offering keys = filter (λ key. same_side (offering_side side key) offering) keys
+keys_of side offering keys = filter (λ key. is_same_side (name_at side key).offering offering) keys
 
 -- the lines of the channels that one side offered, by rising id, as a side knows them
 abbrev pub channel_lines : Version → (side offering : Side) → List Item → List ℕ
@@ -83,7 +78,7 @@ channel_lines v side offering items = flat_map (channel_line v side items) (keys
 -- how a side stands at the end, and its channels: those that A offered, then those that B offered
 abbrev pub summary : Version → Side → List Item → List ℕ
 summary v side items =
-    side_text side ++ codes " " ++ state_text (ended items) ++ line_feed
+    side_word side ++ codes " " ++ state_text (ended items) ++ line_feed
     ++ channel_lines v side A items ++ channel_lines v side B items
 
 -- the report of the run of the steps

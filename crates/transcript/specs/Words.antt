@@ -7,41 +7,21 @@ use Rattle.wire_base.specs.Numbers.{reason_number, reason_name, refusal_number, 
 use Rattle.wire_base.specs.declared.refusal.Refusal.{Refusal}
 use Rattle.wire_base.specs.declared.state.Cause.{Cause}
 use Rattle.wire_base.specs.declared.state.Cause.TheVariants as cause
+use Rattle.text_words.specs.Written.{line_feed, side_word, channel_word, name_at, bytes_word}
 use Rattle.mux_items.specs.declared.channel.ChannelKey.{ChannelKey}
 use Rattle.mux_items.specs.declared.channel.Phase.{Phase}
 use Rattle.mux_items.specs.declared.channel.Phase.TheVariants as phase
 use Rattle.mux_items.specs.declared.channel.MuxEvent.{MuxEvent}
 use Rattle.mux_items.specs.declared.channel.MuxEvent.TheVariants as mux
 use Rattle.mux_run.specs.declared.steps.Side.{Side}
-use Rattle.mux_run.specs.declared.steps.Side.TheVariants.{A, B}
 use Rattle.mux_run.specs.declared.answers.EndEvent.{EndEvent}
 use Rattle.mux_run.specs.declared.answers.EndEvent.TheVariants as event
 use Rattle.mux_run.specs.declared.answers.Reply.{Reply}
 use Rattle.mux_run.specs.declared.answers.Reply.TheVariants as reply
 
--- the byte that ends a line
-abbrev pub line_feed : List ℕ
-line_feed = 10 ∷ []
-
-abbrev pub side_text : Side → List ℕ
-side_text A = codes "A"
-side_text B = codes "B"
-
-abbrev pub other_side : Side → Side
-other_side A = B
-other_side B = A
-
--- the side that offered a channel, by the end that names it
-abbrev pub offering_side : Side → ChannelKey → Side
-offering_side side key = if key.own then side else other_side side
-
--- a channel by its offering side and its id, as A1
+-- a channel of an end of this side, by the side that offered it
 abbrev pub channel_text : Side → ChannelKey → List ℕ
-channel_text side key = side_text (offering_side side key) ++ decimal key.id
-
--- bytes in hex, and `-` for none
-abbrev pub hex_text : List ℕ → List ℕ
-hex_text bytes = if is_empty bytes then codes "-" else encode_lower bytes
+channel_text side key = channel_word (name_at side key)
 
 abbrev pub cause_text : Cause → List ℕ
 cause_text cause.InputEnded = codes "input"
@@ -63,7 +43,7 @@ refusal_text r = codes "refused " ++ decimal (refusal_number r) ++ codes " " ++ 
 abbrev pub reply_text : Side → Reply → List ℕ
 reply_text side reply.Done = codes "ok"
 reply_text side (reply.Made key) = codes "channel " ++ channel_text side key
-reply_text side (reply.Bytes bytes) = codes "bytes " ++ hex_text bytes
+reply_text side (reply.Bytes bytes) = codes "bytes " ++ bytes_word bytes
 reply_text side (reply.Refused r) = refusal_text r
 reply_text side reply.OutOfMemory = []
 
@@ -84,8 +64,8 @@ event_text side (event.Ended c) = codes "ended " ++ cause_text c
 
 -- a line of a side: a space, the side, a space and the words
 abbrev pub event_line : Side → EndEvent → List ℕ
-event_line side e = codes " " ++ side_text side ++ codes " " ++ event_text side e ++ line_feed
+event_line side e = codes " " ++ side_word side ++ codes " " ++ event_text side e ++ line_feed
 
 -- the bytes that a side emitted, as a line where there are any
 abbrev pub emitted_line : Side → List ℕ → List ℕ
-emitted_line side bytes = if is_empty bytes then [] else codes " " ++ side_text side ++ codes "> " ++ encode_lower bytes ++ line_feed
+emitted_line side bytes = if is_empty bytes then [] else codes " " ++ side_word side ++ codes "> " ++ encode_lower bytes ++ line_feed

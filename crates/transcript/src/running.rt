@@ -1,26 +1,23 @@
 //! Running a script and reporting its run.
 
 ghost use Rattle.std.specs.Prelude.{◌≡◌, ◌≤◌, ◌++◌, ◌∷◌, [], length, drop, false, OnOk, OnErr, IfOk};
-ghost use Rattle.mux_run.specs.Built.{AreBuilt};
 ghost use Rattle.mux_run.specs.Run.{run, side_of, start};
 ghost use Rattle.mux_run.specs.Safe.{IsSafeRun};
 ghost use Rattle.duo_world.specs.Holding.{StandsForRun};
 ghost use Rattle.duo_world.specs.Stepping.{IsStepped};
 ghost use Rattle.mux_run.specs.declared.answers.DuoAnswer.{DuoAnswer};
 ghost use Rattle.std.specs.List.{flat_map};
-ghost use Rattle.transcript.specs.Words.{other_side, event_line};
+ghost use Rattle.transcript.specs.Words.{event_line};
 ghost use Rattle.transcript.specs.Ran.{HasMade, HasRun};
 ghost use Rattle.transcript.specs.Report.{answer_lines, step_lines, steps_lines, report_text};
 
 use crate::summary::push_summary;
-use crate::words::{
-    other_side, push_decimal, push_emitted_line, push_event_line, push_line_feed, push_reply,
-    push_text,
-};
+use crate::words::{push_emitted_line, push_event_line, push_reply};
 use duo_world::Duo;
 use mux_run::{DuoAnswer, EndEvent, Side, Step};
 use script::Script;
 use std::alloc::Global;
+use text_words::{other_side, push_decimal, push_line_feed, push_text};
 use wire_base::OutOfMemory;
 
 /// The side that a step is made at.
@@ -88,7 +85,6 @@ fn push_step(
     number: u64,
     step: Step,
 ) -> Result<(), OutOfMemory>
-    requires built { AreBuilt (duo.old.steps ++ step ∷ []) }
     requires works { duo.old.failed ≡ false }
     requires stands { StandsForRun duo.old }
     ensures text { OnOk result (out.new.items ≡ out.old.items ++ step_lines duo.old.terms number step (run duo.old.terms duo.old.steps)) }
@@ -116,7 +112,6 @@ fn push_steps(
     steps: Vec<Step>,
 ) -> Result<(), OutOfMemory>
     requires fresh { duo.old.steps ≡ [] }
-    requires built { AreBuilt steps.items }
     requires works { duo.old.failed ≡ false }
     requires stands { StandsForRun duo.old }
     ensures text { OnOk result (out.new.items ≡ out.old.items ++ steps_lines duo.old.terms 1 start steps.items) }
@@ -131,7 +126,6 @@ fn push_steps(
 }
 
 fn push_report(alloc: Global, out: &mut Vec<u8>, script: Script) -> Result<Duo, OutOfMemory>
-    requires built { AreBuilt script.steps }
     ensures text { IfOk result (λ d. out.new.items ≡ out.old.items ++ report_text d.terms script.steps) }
     ensures ran { IfOk result (HasRun script.version script.nonces script.steps) }
 {
@@ -151,7 +145,6 @@ fn push_report(alloc: Global, out: &mut Vec<u8>, script: Script) -> Result<Duo, 
 ///
 /// The world that ran it is answered: its terms and its steps are the script's. Where memory runs out nothing is appended.
 pub fn report(alloc: Global, script: Script, out: &mut Vec<u8>) -> Result<Duo, OutOfMemory>
-    requires built { AreBuilt script.steps }
     ensures text { IfOk result (λ d. out.new.items ≡ out.old.items ++ report_text d.terms script.steps) }
     ensures ran { IfOk result (HasRun script.version script.nonces script.steps) }
     ensures err { OnErr result (out.new.items ≡ out.old.items) }

@@ -5,16 +5,14 @@ ghost use Rattle.std.specs.List.{flat_map};
 ghost use Rattle.mux_items.specs.Items.{Item};
 ghost use Rattle.mux_items.specs.Views.{known_keys};
 ghost use Rattle.mux_end.specs.Stands.{MuxStands};
-ghost use Rattle.transcript.specs.Words.{offering_side};
-ghost use Rattle.transcript.specs.Report.{tally_text, channel_line_of, channel_line, keys_of, same_side, shown_state, summary};
+ghost use Rattle.text_words.specs.Written.{name_at, is_same_side};
+ghost use Rattle.transcript.specs.Report.{tally_text, channel_line_of, channel_line, keys_of, shown_state, summary};
 
-use crate::words::{
-    offering_side, push_cause, push_channel, push_decimal, push_line_feed, push_phase, push_side,
-    push_text,
-};
+use crate::words::{push_cause, push_phase};
 use mux_end::MuxEnd;
 use mux_items::{ChannelKey, Tally};
 use mux_run::Side;
+use text_words::{ChannelName, push_channel, push_decimal, push_line_feed, push_side, push_text};
 use wire_base::{EndState, OutOfMemory};
 
 fn push_tally(out: &mut Vec<u8>, tally: &Tally) -> Result<(), OutOfMemory>
@@ -67,19 +65,11 @@ fn push_state(out: &mut Vec<u8>, state: EndState) -> Result<(), OutOfMemory>
     }
 }
 
-fn is_same(a: Side, b: Side) -> bool
-    ensures { result ≡ same_side a b }
+/// Whether a channel, as a side names it, was offered by this one.
+fn is_offered_by(side: Side, key: ChannelKey, offering: Side) -> bool
+    ensures { result ≡ is_same_side (name_at side key).offering offering }
 {
-    match a {
-        Side::A => match b {
-            Side::A => true,
-            Side::B => false,
-        },
-        Side::B => match b {
-            Side::A => false,
-            Side::B => true,
-        },
-    }
+    ChannelName::of(side, key).offering == offering
 }
 
 /// Appends the line of a known channel, where this side offered it.
@@ -91,9 +81,9 @@ fn push_known(
     key: ChannelKey,
 ) -> Result<(), OutOfMemory>
     ensures { (items : List Item) (at : ℕ) (rest : List ℕ) → MuxStands end.now items at rest →
-        OnOk result (out.new.items ≡ out.old.items ++ (if same_side (offering_side side key) offering then channel_line end.now.version side items key else [])) }
+        OnOk result (out.new.items ≡ out.old.items ++ (if is_same_side (name_at side key).offering offering then channel_line end.now.version side items key else [])) }
 {
-    if is_same(offering_side(side, key), offering) {
+    if is_offered_by(side, key, offering) {
         push_channel_line(out, side, key, end.tally(key))
     } else {
         Ok(())
@@ -116,7 +106,8 @@ fn push_channels(
         };
         push_known(out, side, offering, end, key)?;
     }
-    Ok(())
+    // No end knows so many channels that their list would go on here.
+    Err(OutOfMemory)
 }
 
 /// Appends how a side stands, and its channels: those that A offered, then those that B offered.

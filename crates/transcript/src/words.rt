@@ -3,90 +3,15 @@
 ghost use Rattle.std.specs.Prelude.{◌≡◌, ◌++◌, codes, OnOk};
 ghost use Rattle.std.specs.Fmt.{decimal};
 ghost use Rattle.hex.specs.Hex.{encode_lower};
-ghost use Rattle.transcript.specs.Words.{line_feed, side_text, other_side, offering_side, channel_text, hex_text, cause_text, phase_text, refusal_text, reply_text, mux_event_text, event_text, event_line, emitted_line};
+ghost use Rattle.transcript.specs.Words.{channel_text, cause_text, phase_text, refusal_text, reply_text, mux_event_text, event_text, event_line, emitted_line};
 
-use itoa::Buffer;
 use mux_items::{ChannelKey, MuxEvent, Phase};
 use mux_run::{EndEvent, Reply, Side};
 use std::alloc::Global;
+use text_words::{
+    push_bytes, push_channel, push_decimal, push_hex, push_line_feed, push_side, push_text,
+};
 use wire_base::{Cause, OutOfMemory, Refusal};
-
-/// Appends a text.
-pub(crate) fn push_text(out: &mut Vec<u8>, text: &str) -> Result<(), OutOfMemory>
-    ensures { OnOk result (out.new.items ≡ out.old.items ++ text.now) }
-{
-    out.extend_from_slice(text.as_bytes())?;
-    Ok(())
-}
-
-/// Ends a line.
-pub(crate) fn push_line_feed(out: &mut Vec<u8>) -> Result<(), OutOfMemory>
-    ensures { OnOk result (out.new.items ≡ out.old.items ++ line_feed) }
-{
-    out.push(b'\n')?;
-    Ok(())
-}
-
-pub(crate) fn push_decimal(out: &mut Vec<u8>, number: u64) -> Result<(), OutOfMemory>
-    ensures { OnOk result (out.new.items ≡ out.old.items ++ decimal number) }
-{
-    let mut buffer = Buffer::new();
-    push_text(out, buffer.format(number))
-}
-
-/// Appends bytes in lower-case hex.
-pub(crate) fn push_hex(alloc: Global, out: &mut Vec<u8>, bytes: &[u8]) -> Result<(), OutOfMemory>
-    ensures { OnOk result (out.new.items ≡ out.old.items ++ encode_lower bytes.now) }
-{
-    let text = hex::encode(alloc, bytes)?;
-    push_text(out, text.as_str())
-}
-
-/// Appends bytes in hex, and `-` for none.
-pub(crate) fn push_bytes(alloc: Global, out: &mut Vec<u8>, bytes: &[u8]) -> Result<(), OutOfMemory>
-    ensures { OnOk result (out.new.items ≡ out.old.items ++ hex_text bytes.now) }
-{
-    match bytes {
-        [] => push_text(out, "-"),
-        [_, ..] => push_hex(alloc, out, bytes),
-    }
-}
-
-pub(crate) fn push_side(out: &mut Vec<u8>, side: Side) -> Result<(), OutOfMemory>
-    ensures { OnOk result (out.new.items ≡ out.old.items ++ side_text side) }
-{
-    match side {
-        Side::A => push_text(out, "A"),
-        Side::B => push_text(out, "B"),
-    }
-}
-
-pub(crate) fn other_side(side: Side) -> Side
-    ensures { result ≡ other_side side }
-{
-    match side {
-        Side::A => Side::B,
-        Side::B => Side::A,
-    }
-}
-
-/// The side that offered a channel, which this side names so.
-pub(crate) fn offering_side(side: Side, key: ChannelKey) -> Side
-    ensures { result ≡ offering_side side key }
-{
-    if key.own { side } else { other_side(side) }
-}
-
-pub(crate) fn push_channel(
-    out: &mut Vec<u8>,
-    side: Side,
-    key: ChannelKey,
-) -> Result<(), OutOfMemory>
-    ensures { OnOk result (out.new.items ≡ out.old.items ++ channel_text side key) }
-{
-    push_side(out, offering_side(side, key))?;
-    push_decimal(out, key.id)
-}
 
 pub(crate) fn push_cause(out: &mut Vec<u8>, cause: Cause) -> Result<(), OutOfMemory>
     ensures { OnOk result (out.new.items ≡ out.old.items ++ cause_text cause) }

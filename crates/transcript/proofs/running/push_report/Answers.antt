@@ -20,8 +20,8 @@ returns-clause-text c =
     (c.in_ok-push_emitted_line-2.ensures ∙ ap (λ bs. c.push_emitted_line.new.out.items ++ emitted_line B bs) c.in_flight-2.ensures.output)
     (c.in_ok-push_steps.ensures.text ∙ ap (λ ss. c.push_emitted_line-2.new.out.items ++ steps_lines old.terms 1 start ss) c.into_vec.ensures)
     c.in_ok-push_text-2.ensures
-    (summary_told c.end.result.now new.a A (run new.terms new.steps).a.items _ _ _ _ c.end.ensures.end made.stands.at_a.stands c.in_ok-push_summary.ensures)
-    (summary_told c.end-2.result.now new.b B (run new.terms new.steps).b.items _ _ _ _ c.end-2.ensures.end made.stands.at_b.stands c.in_ok-push_summary-2.ensures)
+    (summary_told c.end.result.now new.a A (run new.terms new.steps).a.items _ _ _ _ c.end.ensures.end made.stands.at_own.stands c.in_ok-push_summary.ensures)
+    (summary_told c.end-2.result.now new.b B (run new.terms new.steps).b.items _ _ _ _ c.end-2.ensures.end made.stands.at_peer.stands c.in_ok-push_summary-2.ensures)
     c.in_ok-push_text-3.ensures
 
 pub returns-clause-ran : goal.returns-clause-ran

@@ -2,16 +2,13 @@ use Rattle.std.proofs.Common.{◌≡◌, ◌+◌, ◌∷◌, ◌++◌, [], lengt
 use Rattle.mux_run.specs.Run.{run}
 use Rattle.transcript.specs.Report.{step_lines}
 use Rattle.mux_run.proofs.Safety.{run_safe}
-use Rattle.transcript.proofs.Reported.{built_next, stored_next, lines_next, number_fits, all_stored}
+use Rattle.transcript.proofs.Reported.{stored_next, lines_next, number_fits, all_stored}
 use Rattle.transcript.proofs.running.push_steps.Goals as goal
 
 pub overflow_add-number : goal.overflow_add-number
 overflow_add-number c =
     let fits = number_fits c.args.steps.items c.loop-step.duo.steps _ _ c.in-Some.step c.in-Some.ensures.steps.0 c.loop-step.invariant.stored in
     omega (arith, fits, c.loop-step.invariant.number, c.args.steps.small)
-
-pub push_step-requires-clause-built : goal.push_step-requires-clause-built
-push_step-requires-clause-built c = built_next c.args.steps.items c.loop-step.duo.steps _ _ c.in-Some.step c.in-Some.ensures.steps.0 c.loop-step.invariant.stored c.requires.built
 
 pub loop-step-preserved : goal.loop-step-preserved
 loop-step-preserved c =
