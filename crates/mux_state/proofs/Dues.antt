@@ -1,66 +1,30 @@
 -- The frames that an item makes due, and its event, by what an end keeps.
-use Rattle.std.specs.Prelude.{ℕ, List, [], ◌∷◌, ◌++◌, length, take, drop, Bool, true, false, not, ◌&&◌, ◌||◌, ◌==◌, if◌then◌else◌, Some, None}
-use Rattle.std.proofs.Common.{◌≡◌, inl, inr, refl, sym, ◌∙◌, ap, subst, arith, length-take}
-use Rattle.std.proofs.lemmas.Bool.{cases_Bool, false≢true, and_parts, and_left, and_right, or_left, or_right, false_from_ne_true}
-use Rattle.std.proofs.lemmas.List.{drop_all}
+use Rattle.std.specs.Prelude.{ℕ, List, [], ◌∷◌, Bool, true, false, not, ◌||◌, if◌then◌else◌, Some, None}
+use Rattle.std.proofs.Common.{◌≡◌, inl, inr, refl, sym, ◌∙◌, ap}
+use Rattle.std.proofs.lemmas.Bool.{cases_Bool, and_parts, or_left, or_right}
 use Rattle.wire_base.specs.declared.frame.Version.{Version}
 use Rattle.mux_items.specs.declared.channel.ChannelKey.{ChannelKey}
 use Rattle.mux_items.specs.declared.channel.MuxEvent.TheVariants as event
-use Rattle.mux_items.specs.Bodies.{FrameBody, Offer, OfferAccepted, Content, ContentWritingCompleted, ChannelTerminated, ContentProcessed, frame_on, same_key}
+use Rattle.mux_items.specs.Bodies.{FrameBody, Offer, OfferAccepted, Content, ContentWritingCompleted, ChannelTerminated, ContentProcessed, frame_on}
 use Rattle.mux_items.specs.Items.{Item, Hello, DidOffer, DidAccept, DidWrite, DidRead, DidComplete, DidTerminate, Got, Rejected, End, is_running}
-use Rattle.mux_items.specs.Lists.{written, before_cut, is_accepted_in, emitted_in, emitted, has_completed, completion_emitted, is_offered, is_rejected, termination_emitted, is_terminated_by_peer}
+use Rattle.mux_items.specs.Lists.{is_offered, is_rejected, termination_emitted, is_terminated_by_peer}
 use Rattle.mux_items.specs.Kept.{is_known, is_kept}
-use Rattle.mux_items.specs.Due.{content_frames, span, newly_emitted, completes, terminates, due}
+use Rattle.mux_items.specs.Due.{due}
 use Rattle.mux_items.specs.Applying.{Allowed, frame_event}
-use Rattle.mux_items.proofs.Keys.{same_key_refl, same_key_true}
-use Rattle.mux_items.proofs.Emission.{before_cut_cases}
-use Rattle.mux_items.proofs.Taking.{completed_more}
-use Rattle.mux_items.proofs.Emits.{untouched}
+use Rattle.mux_items.proofs.Keys.{same_key_refl}
 use Rattle.mux_items.proofs.Offered.{heard_first, offered_first}
 use Rattle.mux_items.proofs.Open.{rejected_terminated}
 use Rattle.mux_items.proofs.Permits.{accept_permits, complete_permits, later_permits, read_permits, terminate_permits, write_permits}
-use Rattle.mux_state.proofs.Step.{plain}
 use Rattle.mux_state.specs.State.{ChannelState, channel_at}
 use Rattle.mux_state.specs.Next.{frames_due, framed_state}
 use Rattle.mux_state.specs.Tests.{due_in, tally_in}
 use Rattle.mux_state.specs.Book.{Kept, Gone, standing_of, book_of, found, due_found, due_of_book, event_found, event_in}
-use Rattle.mux_state.proofs.Sending.{channel_sends, frames_sent, nothing_ends, closed_frames}
+use Rattle.mux_state.proofs.Sending.{channel_sends, frames_sent, due_quiet, closed_frames}
 use Rattle.mux_state.proofs.Refusing.{event_by_state}
 use Rattle.mux_state.proofs.Books.{known_unrejected, unoffered_unrejected, or_last, gone_is, found_is, offered_is}
 
 kept_known : (v : Version) (c : ChannelKey) (items : List Item) → is_kept v c items ≡ true → is_known c items ≡ true
 kept_known v c items e = (and_parts (is_known c items) _ e).0
-
-kept_unrejected : (v : Version) (c key : ChannelKey) (items : List Item) → Allowed v items → same_key key c ≡ true → is_kept v key items ≡ true → is_rejected c items ≡ false
-kept_unrejected v c key items ok same e = subst (λ k. is_rejected k items ≡ false) (same_key_true key c same) (known_unrejected v key items ok (kept_known v key items e))
-
-no_length : (bytes : List ℕ) → length bytes ≡ 0 → bytes ≡ []
-no_length [] e = refl
-no_length (byte ∷ bytes) e = absurd (omega (arith, e))
-
--- nothing is written or completed, as on a rejected channel
-uncompleted_before : (c : ChannelKey) (items : List Item) → has_completed c items ≡ false → has_completed c (before_cut c items) ≡ false
-uncompleted_before c [] e = refl
-uncompleted_before c (item ∷ items) e = elim (before_cut_cases c item items) [
-  | inl same ↦ ap (has_completed c) same ∙ uncompleted_before c items (false_from_ne_true (has_completed c items) (λ f. false≢true (sym e ∙ completed_more c item items f)))
-  | inr whole ↦ ap (has_completed c) whole.0 ∙ e
-]
-
-uncompleted_emitted : (v : Version) (c : ChannelKey) (items : List Item) → has_completed c items ≡ false → completion_emitted v c items ≡ false
-uncompleted_emitted v c items e =
-    let before = before_cut c items in
-    and_left (is_accepted_in c before && has_completed c before) (emitted_in v c before == length (written c before)) (and_right (is_accepted_in c before) (has_completed c before) (uncompleted_before c items e))
-
-no_span : (a b : ℕ) (bytes : List ℕ) → bytes ≡ [] → span a b bytes ≡ []
-no_span a b bytes e = ap (λ l. drop a (take b l)) e ∙ drop_all a (take b []) (omega (arith, length-take {A = ℕ} b []))
-
-due_rejected : (v : Version) (place : ℕ) (c : ChannelKey) (body : FrameBody) (items : List Item) → Allowed v items → is_rejected c items ≡ true → due v (Got place c body) items ≡ []
-due_rejected v place c body items ok e =
-    let u = untouched v c items ok e in
-    let content : newly_emitted v c (Got place c body) items ≡ [] = no_span (emitted v c items) (emitted v c (Got place c body ∷ items)) (written c items) u.unwritten in
-    let completion : completes v c (Got place c body) items ≡ false = and_left (completion_emitted v c (Got place c body ∷ items)) (not (completion_emitted v c items)) (uncompleted_emitted v c (Got place c body ∷ items) u.uncompleted) in
-    let termination : terminates v c (Got place c body) items ≡ false = nothing_ends (termination_emitted v c (Got place c body ∷ items)) (termination_emitted v c items) (rejected_terminated v c items e) in
-    λ i. [] ++ content_frames c (content i) ++ (if completion i then frame_on c ContentWritingCompleted ∷ [] else []) ++ (if termination i then frame_on c ChannelTerminated ∷ [] else [])
 
 -- a kept channel, one that is gone, and one that is unknown
 found_kept : (v : Version) (c : ChannelKey) (items : List Item) → is_kept v c items ≡ true → found c (book_of v items) ≡ Some (Kept (channel_at v c items))
@@ -86,14 +50,14 @@ quiet_sent c running place (ContentProcessed count) s e = frames_sent c s _ e
 frame_found : (v : Version) (place : ℕ) (c : ChannelKey) (body : FrameBody) (items : List Item) → Allowed v (Got place c body ∷ items) → is_offered c items ≡ true
     → due_in c (is_running items) (Got place c body) (channel_at v c items) ≡ frames_due c (framed_state body (channel_at v c items))
     → due v (Got place c body) items ≡ due_found c (is_running items) (Got place c body) (found c (book_of v items))
-frame_found v place c body items ok offered plain = elim (cases_Bool (is_known c items)) [
+frame_found v place c body items ok offered told = elim (cases_Bool (is_known c items)) [
   | inl known ↦
       let sends = channel_sends v c (Got place c body) items (same_key_refl c) ok (known_unrejected v c items ok.2 known) in
       elim (cases_Bool (is_kept v c items)) [
         | inl kept ↦ due_kept v c (Got place c body) items ok.2 kept sends
-        | inr gone ↦ sends ∙ (plain ∙ (quiet_sent c (is_running items) place body (channel_at v c items) (gone_is v c items known gone).sent ∙ sym (ap (due_found c (is_running items) (Got place c body)) (found_gone v c items known gone))))
+        | inr gone ↦ sends ∙ (told ∙ (quiet_sent c (is_running items) place body (channel_at v c items) (gone_is v c items known gone).sent ∙ sym (ap (due_found c (is_running items) (Got place c body)) (found_gone v c items known gone))))
       ]
-  | inr unknown ↦ due_rejected v place c body items ok.2 (or_last (is_known c items) (is_rejected c items) unknown (offered_is c items ∙ offered))
+  | inr unknown ↦ due_quiet v c (Got place c body) items ok (rejected_terminated v c items (or_last (is_known c items) (is_rejected c items) unknown (offered_is c items ∙ offered)))
       ∙ sym (ap (due_found c (is_running items) (Got place c body)) (found_none v c items unknown))
 ]
 

@@ -163,10 +163,6 @@ one_termination c s dry done first both =
       frames = dry_frames c s dry ∙ (λ i. (if done i && not (first i) then frame_on c ContentWritingCompleted ∷ [] else []) ++ (if done i && both i then frame_on c ChannelTerminated ∷ [] else []));
     }
 
--- nothing
-one_nothing : (c : ChannelKey) (s : ChannelState) → IsDry s → (is_done s && not s.completion_sent) ≡ false → (is_done s && s.completed) ≡ false → SendsOne c s kind.Nothing
-one_nothing c s dry first both = record { settles = refl; frames = refl }
-
 -- a channel that owes nothing is settled
 pub nothing_due : (c : ChannelKey) (s : ChannelState) → IsDry s → (is_done s && not s.completion_sent) ≡ false → (is_done s && s.completed) ≡ false → (settled s ≡ s) × (frames_due c s ≡ [])
 nothing_due c s dry first both = (

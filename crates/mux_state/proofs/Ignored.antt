@@ -1,56 +1,33 @@
 -- After the own termination only the peer's is heeded.
-use Rattle.std.specs.Prelude.{ℕ, ◌+◌, List, [], ◌∷◌, length, drop, Bool, true, false, not, ◌&&◌, ◌||◌, ◌==◌, if◌then◌else◌, Option}
-use Rattle.std.proofs.Common.{◌≡◌, inl, inr, refl, sym, ◌∙◌, ap, arith}
-use Rattle.std.proofs.lemmas.Bool.{cases_Bool, false≢true, and_parts, eqb-true}
+use Rattle.std.specs.Prelude.{ℕ, ◌+◌, List, [], ◌∷◌, length, drop, Bool, true, false, not, ◌&&◌, ◌||◌, if◌then◌else◌, Option}
+use Rattle.std.proofs.Common.{◌≡◌, refl, sym, ◌∙◌, ap}
+use Rattle.std.proofs.lemmas.Bool.{false≢true}
 use Rattle.wire_base.specs.declared.frame.Version.{Version}
 use Rattle.mux_items.specs.declared.channel.ChannelKey.{ChannelKey}
 use Rattle.mux_items.specs.Bodies.{OfferAccepted, Content, ContentWritingCompleted, ContentProcessed, same_key, window_of}
 use Rattle.mux_items.specs.Items.{Item, Got}
-use Rattle.mux_items.specs.Lists.{written, is_cut, before_cut, is_accepted_in, emitted_in, emitted, has_completed, has_terminated, is_terminated_by_peer, is_rejected, is_completed_in, completion_in, completion_emitted, is_finished, termination_emitted, taken, is_accepted, is_completed, acknowledged, granted, is_dropped, handed}
+use Rattle.mux_items.specs.Lists.{written, is_cut, emitted, has_terminated, is_terminated_by_peer, completion_emitted, termination_emitted, taken, is_accepted, is_completed, acknowledged, granted, is_dropped, handed}
 use Rattle.mux_items.specs.Applying.{Allowed}
-use Rattle.mux_items.proofs.Emission.{no_cut, emitted_in_more, emitted_in_bound}
-use Rattle.mux_items.proofs.Taking.{finished_in, termination_more, finished_more}
-use Rattle.mux_items.proofs.Emits.{cut_there}
-use Rattle.mux_items.proofs.Open.{uncut_both}
+use Rattle.mux_items.proofs.Taking.{termination_more}
+use Rattle.mux_items.proofs.Emits.{done_more, still_over}
 use Rattle.mux_state.specs.State.{ChannelState, pending_bytes, channel_at}
 use Rattle.mux_state.specs.Next.{framed_state, settled}
 use Rattle.mux_state.proofs.Fields.{same_state}
 
-finished_uncut : (v : Version) (c : ChannelKey) (items : List Item) → termination_emitted v c items ≡ true → is_cut c items ≡ false → is_rejected c items ≡ false → is_finished v c items ≡ true
-finished_uncut v c items sent uncut unrejected = last_of (has_terminated c items) (is_terminated_by_peer c items) (is_rejected c items) (is_finished v c items) sent (uncut_both c items uncut).0 (uncut_both c items uncut).1 unrejected
-  where
-    last_of : (a b r d : Bool) → (a || b || r || d) ≡ true → a ≡ false → b ≡ false → r ≡ false → d ≡ true
-    last_of a b r d e f g h = cc
-
-all_emitted : (v : Version) (c : ChannelKey) (items : List Item) → is_finished v c items ≡ true → is_cut c items ≡ false → emitted_in v c items ≡ length (written c items)
-all_emitted v c items done uncut =
-    let there : finished_in v c items ≡ true = sym (ap (finished_in v c) (no_cut c items uncut)) ∙ done in
-    let whole = (and_parts (completion_in v c items) (is_completed_in c items) there).0 in
-    eqb-true (emitted_in v c items) (length (written c items)) (and_parts (is_accepted_in c items && has_completed c items) (emitted_in v c items == length (written c items)) whole).1
-
--- an item that is no cut and writes nothing
+-- an item that emits nothing and completes nothing
 pub record StaysSent (v : Version) (c : ChannelKey) (item : Item) (items : List Item) : Type 0 where
   pub emitted : emitted v c (item ∷ items) ≡ emitted v c items
   pub completion : completion_emitted v c (item ∷ items) ≡ completion_emitted v c items
 
-stays_uncut : (v : Version) (c : ChannelKey) (item : Item) (items : List Item) → Allowed v (item ∷ items) → is_finished v c items ≡ true → is_cut c items ≡ false → is_cut c (item ∷ items) ≡ false → written c (item ∷ items) ≡ written c items
-    → StaysSent v c item items
-stays_uncut v c item items ok done uncut still same =
-    let all : emitted_in v c items ≡ length (written c items) = all_emitted v c items done uncut in
-    record {
-      emitted = ap (emitted_in v c) (no_cut c (item ∷ items) still)
-          ∙ (omega (arith, all, emitted_in_more v c item items, emitted_in_bound v c (item ∷ items), ap length same)
-          ∙ sym (ap (emitted_in v c) (no_cut c items uncut)));
-      completion = (and_parts (completion_emitted v c (item ∷ items)) (is_completed_in c (before_cut c (item ∷ items))) (finished_more v c item items ok done)).0
-          ∙ sym (and_parts (completion_emitted v c items) (is_completed_in c (before_cut c items)) done).0;
-    }
+both_or_neither : (a b : Bool) → (a ≡ true → b ≡ true) → (b ≡ true → a ≡ true) → a ≡ b
+both_or_neither true b f g = sym (f refl)
+both_or_neither false true f g = g refl
+both_or_neither false false f g = refl
 
-pub stays_sent : (v : Version) (c : ChannelKey) (item : Item) (items : List Item) → Allowed v (item ∷ items) → termination_emitted v c items ≡ true → is_rejected c items ≡ false → is_cut c (item ∷ items) ≡ is_cut c items → written c (item ∷ items) ≡ written c items
-    → StaysSent v c item items
-stays_sent v c item items ok sent unrejected cut same = elim (cases_Bool (is_cut c items)) [
-  | inl e ↦ record { emitted = ap (emitted_in v c) (cut_there c item items (cut ∙ e)); completion = ap (completion_in v c) (cut_there c item items (cut ∙ e)) }
-  | inr e ↦ stays_uncut v c item items ok (finished_uncut v c items sent e unrejected) e (cut ∙ e) same
-]
+pub stays_sent : (v : Version) (c : ChannelKey) (item : Item) (items : List Item) → Allowed v (item ∷ items) → termination_emitted v c items ≡ true → StaysSent v c item items
+stays_sent v c item items ok sent =
+    let still = still_over v c item items ok sent in
+    record { emitted = still.emitted; completion = both_or_neither (completion_emitted v c (item ∷ items)) (completion_emitted v c items) still.completion (done_more v c item items ok) }
 
 quiet : {A : Type 0} (same terminated : Bool) (x y : A) → terminated ≡ true → (if same && not terminated then x else y) ≡ y
 quiet true true x y e = refl
@@ -63,41 +40,41 @@ settled_sent s next e = rw e refl
 unread_same : (h p a a' : Bool) (bytes : List ℕ) → a ≡ a' → (if h || (p && not a) then [] else bytes) ≡ (if h || (p && not a') then [] else bytes)
 unread_same h p a a' bytes e = ap (λ b. if h || (p && not b) then [] else bytes) e
 
-pub ignored_answer : (v : Version) (place : ℕ) (c : ChannelKey) (size : Option ℕ) (items : List Item) → Allowed v (Got place c (OfferAccepted size) ∷ items) → termination_emitted v c items ≡ true → is_rejected c items ≡ false
+pub ignored_answer : (v : Version) (place : ℕ) (c : ChannelKey) (size : Option ℕ) (items : List Item) → Allowed v (Got place c (OfferAccepted size) ∷ items) → termination_emitted v c items ≡ true
     → channel_at v c (Got place c (OfferAccepted size) ∷ items) ≡ settled (framed_state (OfferAccepted size) (channel_at v c items))
-ignored_answer v place c size items ok sent unrejected =
+ignored_answer v place c size items ok sent =
     let item = Got place c (OfferAccepted size) in
-    let stays = stays_sent v c item items ok sent unrejected refl refl in
+    let stays = stays_sent v c item items ok sent in
     let accepted = quiet (same_key c c) (termination_emitted v c items) true (is_accepted v c items) sent in
     same_state (channel_at v c (item ∷ items)) (channel_at v c items) refl refl refl accepted refl (ap (λ n. pending_bytes (is_cut c items) n (written c items)) stays.emitted) stays.emitted refl stays.completion
     (quiet (same_key c c) (termination_emitted v c items) (granted v c items + window_of size) (granted v c items) sent) refl refl
     (unread_same (has_terminated c items) (is_terminated_by_peer c items) (is_accepted v c (item ∷ items)) (is_accepted v c items) (drop (handed v c items) (taken v c items)) accepted) refl refl (termination_more v c item items sent ok ∙ sym sent) refl
     ∙ sym (settled_sent (channel_at v c items) _ sent)
 
-pub ignored_content : (v : Version) (place : ℕ) (c : ChannelKey) (bytes : List ℕ) (items : List Item) → Allowed v (Got place c (Content bytes) ∷ items) → termination_emitted v c items ≡ true → is_rejected c items ≡ false
+pub ignored_content : (v : Version) (place : ℕ) (c : ChannelKey) (bytes : List ℕ) (items : List Item) → Allowed v (Got place c (Content bytes) ∷ items) → termination_emitted v c items ≡ true
     → channel_at v c (Got place c (Content bytes) ∷ items) ≡ settled (framed_state (Content bytes) (channel_at v c items))
-ignored_content v place c bytes items ok sent unrejected =
+ignored_content v place c bytes items ok sent =
     let item = Got place c (Content bytes) in
-    let stays = stays_sent v c item items ok sent unrejected refl refl in
+    let stays = stays_sent v c item items ok sent in
     let same : taken v c (item ∷ items) ≡ taken v c items = quiet (same_key c c) (termination_emitted v c items) _ (taken v c items) sent in
     same_state (channel_at v c (item ∷ items)) (channel_at v c items) refl refl refl refl refl (ap (λ n. pending_bytes (is_cut c items) n (written c items)) stays.emitted) stays.emitted refl stays.completion
     refl refl (ap length same) (ap (λ bs. if is_dropped v c items then [] else drop (handed v c items) bs) same) refl refl (termination_more v c item items sent ok ∙ sym sent) refl
     ∙ sym (settled_sent (channel_at v c items) _ sent)
 
-pub ignored_completion : (v : Version) (place : ℕ) (c : ChannelKey) (items : List Item) → Allowed v (Got place c ContentWritingCompleted ∷ items) → termination_emitted v c items ≡ true → is_rejected c items ≡ false
+pub ignored_completion : (v : Version) (place : ℕ) (c : ChannelKey) (items : List Item) → Allowed v (Got place c ContentWritingCompleted ∷ items) → termination_emitted v c items ≡ true
     → channel_at v c (Got place c ContentWritingCompleted ∷ items) ≡ settled (framed_state ContentWritingCompleted (channel_at v c items))
-ignored_completion v place c items ok sent unrejected =
+ignored_completion v place c items ok sent =
     let item = Got place c ContentWritingCompleted in
-    let stays = stays_sent v c item items ok sent unrejected refl refl in
+    let stays = stays_sent v c item items ok sent in
     same_state (channel_at v c (item ∷ items)) (channel_at v c items) refl refl refl refl refl (ap (λ n. pending_bytes (is_cut c items) n (written c items)) stays.emitted) stays.emitted refl stays.completion
     refl refl refl refl refl (quiet (same_key c c) (termination_emitted v c items) true (is_completed v c items) sent) (termination_more v c item items sent ok ∙ sym sent) refl
     ∙ sym (settled_sent (channel_at v c items) _ sent)
 
-pub ignored_credit : (v : Version) (place : ℕ) (c : ChannelKey) (count : ℕ) (items : List Item) → Allowed v (Got place c (ContentProcessed count) ∷ items) → termination_emitted v c items ≡ true → is_rejected c items ≡ false
+pub ignored_credit : (v : Version) (place : ℕ) (c : ChannelKey) (count : ℕ) (items : List Item) → Allowed v (Got place c (ContentProcessed count) ∷ items) → termination_emitted v c items ≡ true
     → channel_at v c (Got place c (ContentProcessed count) ∷ items) ≡ settled (framed_state (ContentProcessed count) (channel_at v c items))
-ignored_credit v place c count items ok sent unrejected =
+ignored_credit v place c count items ok sent =
     let item = Got place c (ContentProcessed count) in
-    let stays = stays_sent v c item items ok sent unrejected refl refl in
+    let stays = stays_sent v c item items ok sent in
     same_state (channel_at v c (item ∷ items)) (channel_at v c items) refl refl refl refl refl (ap (λ n. pending_bytes (is_cut c items) n (written c items)) stays.emitted) stays.emitted refl stays.completion
     (quiet (same_key c c) (termination_emitted v c items) (granted v c items + count) (granted v c items) sent) (quiet (same_key c c) (termination_emitted v c items) (acknowledged v c items + count) (acknowledged v c items) sent) refl refl refl refl (termination_more v c item items sent ok ∙ sym sent) refl
     ∙ sym (settled_sent (channel_at v c items) _ sent)

@@ -1,4 +1,4 @@
--- Channels that were offered, and those that weren't.
+-- A channel before its offer.
 use Rattle.std.specs.Prelude.{List, Bool, true, false}
 use Rattle.std.proofs.Common.{◌≡◌, sym, ◌∙◌, ap}
 use Rattle.std.proofs.lemmas.Bool.{true≢false}

@@ -72,11 +72,11 @@ heard_or_sent v c items running f g = elim (cases_Bool (termination_emitted v c 
 
 frame_step : (v : Version) (place : ℕ) (c : ChannelKey) (body : FrameBody) (items : List Item) → Allowed v (Got place c body ∷ items) → is_rejected c items ≡ false → channel_at v c (Got place c body ∷ items) ≡ next_state (Got place c body) (channel_at v c items)
 frame_step v place c (Offer name size) items ok unrejected = channel_heard v place c name size items ok
-frame_step v place c (OfferAccepted size) items ok unrejected = heard_or_sent v c items ok.0.running (λ o. heard_answer v place c size items ok o) (λ sent. ignored_answer v place c size items ok sent unrejected)
-frame_step v place c (Content bytes) items ok unrejected = heard_or_sent v c items ok.0.running (λ o. heard_content v place c bytes items ok o) (λ sent. ignored_content v place c bytes items ok sent unrejected)
-frame_step v place c ContentWritingCompleted items ok unrejected = heard_or_sent v c items ok.0.running (λ o. heard_completion v place c items ok o) (λ sent. ignored_completion v place c items ok sent unrejected)
+frame_step v place c (OfferAccepted size) items ok unrejected = heard_or_sent v c items ok.0.running (λ o. heard_answer v place c size items ok o) (λ sent. ignored_answer v place c size items ok sent)
+frame_step v place c (Content bytes) items ok unrejected = heard_or_sent v c items ok.0.running (λ o. heard_content v place c bytes items ok o) (λ sent. ignored_content v place c bytes items ok sent)
+frame_step v place c ContentWritingCompleted items ok unrejected = heard_or_sent v c items ok.0.running (λ o. heard_completion v place c items ok o) (λ sent. ignored_completion v place c items ok sent)
 frame_step v place c ChannelTerminated items ok unrejected = channel_closed v place c items
-frame_step v place c (ContentProcessed count) items ok unrejected = heard_or_sent v c items ok.0.running (λ o. heard_credit v place c count items ok o) (λ sent. ignored_credit v place c count items ok sent unrejected)
+frame_step v place c (ContentProcessed count) items ok unrejected = heard_or_sent v c items ok.0.running (λ o. heard_credit v place c count items ok o) (λ sent. ignored_credit v place c count items ok sent)
 
 terminated_settled : (v : Version) (c : ChannelKey) (items : List Item) → channel_at v c (DidTerminate c ∷ items) ≡ next_state (DidTerminate c) (channel_at v c items)
 terminated_settled v c items = channel_terminated v c items

@@ -33,9 +33,6 @@ sent_more v false allowed sent all le = omega arith
 all_sent : (sent more all : ℕ) → sent ≤ all → sent + more ≤ all → ((all - sent) == more) ≡ ((sent + more) == all)
 all_sent sent more all le less = grind (arith, nat_tests)
 
-all_by : (accepted done : Bool) (left more sent all : ℕ) → (left == more) ≡ (sent == all) → (accepted && done && (left == more)) ≡ (accepted && done && (sent == all))
-all_by accepted done left more sent all e = ap (λ b. accepted && done && b) e
-
 -- the state with all that an item tells, before what is due is sent
 abbrev pub unsent : Version → ChannelKey → Item → List Item → ChannelState
 unsent v c item items = record {

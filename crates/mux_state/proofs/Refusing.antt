@@ -1,7 +1,7 @@
 -- What the rules say of a channel, by its state.
 use Rattle.std.specs.Prelude.{ℕ, ◌+◌, ◌-◌, nat_lt, Option, List, length, Bool, true, false, ◌||◌, if◌then◌else◌, Some, None}
 use Rattle.std.proofs.Common.{◌≡◌, inl, inr, refl, sym, ◌∙◌, ap}
-use Rattle.std.proofs.lemmas.Bool.{cases_Bool, true≢false}
+use Rattle.std.proofs.lemmas.Bool.{cases_Bool}
 use Rattle.wire_base.specs.declared.frame.Version.{Version}
 use Rattle.wire_base.specs.declared.refusal.Refusal.{Refusal}
 use Rattle.wire_base.specs.declared.refusal.Refusal.TheVariants as refusal
@@ -77,10 +77,6 @@ heeded_by_state v c (ContentProcessed count) items = refl
 -- a frame that isn't an offer, on a channel that was offered
 pub frame_by_state : (v : Version) (c : ChannelKey) (body : FrameBody) (items : List Item) → is_offered c items ≡ true → later_refusal v c body items ≡ frame_test body (channel_at v c items)
 frame_by_state v c body items e = rw e (ap (λ r. if termination_emitted v c items then None else r) (heeded_by_state v c body items))
-
-or_unrejected : (r p : Bool) → r ≡ false → (r || p) ≡ p
-or_unrejected true p e = absurd (true≢false e)
-or_unrejected false p e = refl
 
 pub event_by_state : (v : Version) (c : ChannelKey) (body : FrameBody) (items : List Item) → is_rejected c items ≡ false → frame_event v c body items ≡ event_on c body (channel_at v c items)
 event_by_state v c ChannelTerminated items e = rw e refl

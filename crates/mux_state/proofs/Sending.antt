@@ -1,15 +1,16 @@
 -- The frames that an item makes due, by the state of its channel.
-use Rattle.std.specs.Prelude.{ℕ, List, [], ◌∷◌, ◌++◌, take, drop, Bool, true, false, not, ◌&&◌, ◌||◌, if◌then◌else◌}
-use Rattle.std.proofs.Common.{◌≡◌, inl, inr, refl, sym, ◌∙◌, ap, subst, arith, length-take, append_assoc}
+use Rattle.std.specs.Prelude.{ℕ, List, [], ◌∷◌, ◌++◌, take, Bool, true, false, not, ◌&&◌, ◌||◌, if◌then◌else◌}
+use Rattle.std.proofs.Common.{◌≡◌, inl, inr, refl, sym, ◌∙◌, ap, subst, append_assoc}
 use Rattle.std.proofs.lemmas.Bool.{cases_Bool, true≢false, false≢true}
-use Rattle.std.proofs.lemmas.List.{drop-take, drop_all}
+use Rattle.std.proofs.lemmas.List.{drop-take}
 use Rattle.wire_base.specs.declared.frame.Version.{Version}
 use Rattle.mux_items.specs.declared.channel.ChannelKey.{ChannelKey}
 use Rattle.mux_items.specs.Bodies.{FrameBody, Offer, OfferAccepted, Content, ContentWritingCompleted, ChannelTerminated, ContentProcessed, ChannelFrame, frame_on}
 use Rattle.mux_items.specs.Items.{Item, Hello, DidOffer, DidAccept, DidWrite, DidRead, DidComplete, DidTerminate, Got, Rejected, End, names, is_running}
-use Rattle.mux_items.specs.Lists.{written, is_cut, before_cut, emitted_in, emitted, has_terminated, is_terminated_by_peer, is_rejected, is_finished, completion_in, completion_emitted, termination_emitted}
+use Rattle.mux_items.specs.Lists.{written, is_cut, emitted_in, emitted, has_terminated, is_terminated_by_peer, is_rejected, is_finished, completion_in, completion_emitted, termination_emitted}
 use Rattle.mux_items.specs.Due.{content_frames, span, newly_emitted, completes, terminates, due_on, due}
 use Rattle.mux_items.specs.Applying.{Allowed}
+use Rattle.mux_items.proofs.Emits.{none_emitted, cut_there}
 use Rattle.mux_items.proofs.Keys.{same_key_refl, same_key_true}
 use Rattle.mux_items.proofs.Permits.{accept_permits, complete_permits, terminate_permits, write_permits}
 use Rattle.mux_state.specs.State.{ChannelState, channel_at}
@@ -49,17 +50,14 @@ due_absorbed : (v : Version) (c : ChannelKey) (first : List ChannelFrame) (item 
     → due_on v c first item items ≡ first ++ frames_due c s
 due_absorbed v c first item items s ok o uncut unrejected told = due_open v c first item items ok o uncut unrejected ∙ ap (λ u. first ++ frames_due c u) told
 
-span_same : (n m : ℕ) (bytes : List ℕ) → m ≡ n → span n m bytes ≡ []
-span_same n m bytes e = ap (λ k. drop n (take k bytes)) e ∙ drop_all n (take n bytes) (omega (arith, length-take n bytes))
-
 -- an item that emits nothing more
 due_still : (v : Version) (c : ChannelKey) (item : Item) (items : List Item) (b : Bool) → StaysSent v c item items → terminates v c item items ≡ b → due_on v c [] item items ≡ (if b then frame_on c ChannelTerminated ∷ [] else [])
 due_still v c item items b stays e =
-    let content : newly_emitted v c item items ≡ [] = span_same (emitted v c items) (emitted v c (item ∷ items)) (written c (item ∷ items)) stays.emitted in
+    let content : newly_emitted v c item items ≡ [] = none_emitted v c item items stays.emitted in
     let completion : completes v c item items ≡ false = ap (λ x. x && not (completion_emitted v c items)) stays.completion ∙ and_not_self (completion_emitted v c items) in
     λ i. [] ++ content_frames c (content i) ++ (if completion i then frame_on c ContentWritingCompleted ∷ [] else []) ++ (if e i then frame_on c ChannelTerminated ∷ [] else [])
 
-pub nothing_ends : (x y : Bool) → y ≡ true → (x && not y) ≡ false
+nothing_ends : (x y : Bool) → y ≡ true → (x && not y) ≡ false
 nothing_ends true true e = refl
 nothing_ends false true e = refl
 nothing_ends x false e = absurd (false≢true e)
@@ -68,15 +66,16 @@ pub frames_sent : (c : ChannelKey) (s next : ChannelState) → s.termination_sen
 frames_sent c s next e = rw e refl
 
 -- an ignored frame makes nothing due
-due_ignored : (v : Version) (c : ChannelKey) (item : Item) (items : List Item) (next : ChannelState) → Allowed v (item ∷ items) → termination_emitted v c items ≡ true → is_rejected c items ≡ false → is_cut c (item ∷ items) ≡ is_cut c items → written c (item ∷ items) ≡ written c items
+pub due_quiet : (v : Version) (c : ChannelKey) (item : Item) (items : List Item) → Allowed v (item ∷ items) → termination_emitted v c items ≡ true → due_on v c [] item items ≡ []
+due_quiet v c item items ok sent = due_still v c item items false (stays_sent v c item items ok sent) (nothing_ends (termination_emitted v c (item ∷ items)) (termination_emitted v c items) sent)
+
+due_ignored : (v : Version) (c : ChannelKey) (item : Item) (items : List Item) (next : ChannelState) → Allowed v (item ∷ items) → termination_emitted v c items ≡ true
     → due_on v c [] item items ≡ frames_due c (if termination_emitted v c items then channel_at v c items else next)
-due_ignored v c item items next ok sent unrejected cut same =
-    due_still v c item items false (stays_sent v c item items ok sent unrejected cut same) (nothing_ends (termination_emitted v c (item ∷ items)) (termination_emitted v c items) sent)
-    ∙ sym (frames_sent c (channel_at v c items) next sent)
+due_ignored v c item items next ok sent = due_quiet v c item items ok sent ∙ sym (frames_sent c (channel_at v c items) next sent)
 
 cut_stays : (v : Version) (c : ChannelKey) (item : Item) (items : List Item) → is_cut c (item ∷ items) ≡ true → StaysSent v c item items
 cut_stays v c item items e =
-    let before : before_cut c (item ∷ items) ≡ before_cut c items = rw e refl in
+    let before = cut_there c item items e in
     record { emitted = ap (emitted_in v c) before; completion = ap (completion_in v c) before }
 
 -- the peer's termination
@@ -110,17 +109,17 @@ frame_due : (v : Version) (place : ℕ) (c : ChannelKey) (body : FrameBody) (ite
 frame_due v place c (Offer name size) items ok unrejected = let o = open_heard v place c name size items ok in due_absorbed v c [] (Got place c (Offer name size)) items _ ok o o.uncut unrejected (absorbed_heard v place c name size items ok)
 frame_due v place c (OfferAccepted size) items ok unrejected = heard_or_sent v c items ok.0.running
     (λ o. due_absorbed v c [] (Got place c (OfferAccepted size)) items _ ok o o.uncut unrejected (absorbed_answer v place c size items o))
-    (λ sent. due_ignored v c (Got place c (OfferAccepted size)) items _ ok sent unrejected refl refl)
+    (λ sent. due_ignored v c (Got place c (OfferAccepted size)) items _ ok sent)
 frame_due v place c (Content bytes) items ok unrejected = heard_or_sent v c items ok.0.running
     (λ o. due_absorbed v c [] (Got place c (Content bytes)) items _ ok o o.uncut unrejected (absorbed_content v place c bytes items o))
-    (λ sent. due_ignored v c (Got place c (Content bytes)) items _ ok sent unrejected refl refl)
+    (λ sent. due_ignored v c (Got place c (Content bytes)) items _ ok sent)
 frame_due v place c ContentWritingCompleted items ok unrejected = heard_or_sent v c items ok.0.running
     (λ o. due_absorbed v c [] (Got place c ContentWritingCompleted) items _ ok o o.uncut unrejected (absorbed_completion v place c items o))
-    (λ sent. due_ignored v c (Got place c ContentWritingCompleted) items _ ok sent unrejected refl refl)
+    (λ sent. due_ignored v c (Got place c ContentWritingCompleted) items _ ok sent)
 frame_due v place c ChannelTerminated items ok unrejected = due_closed v place c items
 frame_due v place c (ContentProcessed count) items ok unrejected = heard_or_sent v c items ok.0.running
     (λ o. due_absorbed v c [] (Got place c (ContentProcessed count)) items _ ok o o.uncut unrejected (absorbed_credit v place c count items o))
-    (λ sent. due_ignored v c (Got place c (ContentProcessed count)) items _ ok sent unrejected refl refl)
+    (λ sent. due_ignored v c (Got place c (ContentProcessed count)) items _ ok sent)
 
 -- the frames of an item on the channel
 pub channel_sends : (v : Version) (c : ChannelKey) (item : Item) (items : List Item) → names c item ≡ true → Allowed v (item ∷ items) → is_rejected c items ≡ false → due v item items ≡ due_in c (is_running items) item (channel_at v c items)
