@@ -7,3 +7,4 @@ pub mod Shortest
 pub mod Plain
 pub mod Every
 pub mod Laws
+pub mod Refused

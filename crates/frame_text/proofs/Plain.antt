@@ -121,7 +121,7 @@ bytes-found n bytes x rest e =
           (record { len = simp length-take (omega arith); parts = sym (take-append-drop n bytes) })
     ]
 
-not_plain : (o : Option Code) (c : Code) → plain_of o ≡ Some c → o ≡ Some c
+pub not_plain : (o : Option Code) (c : Code) → plain_of o ≡ Some c → o ≡ Some c
 not_plain None c e = absurd cc
 not_plain (Some code.Offer) c e = e
 not_plain (Some code.OfferAccepted) c e = e

@@ -4,3 +4,4 @@ pub mod Hello
 pub mod Reading
 pub mod Codec
 pub mod Spelling
+pub mod Rules

@@ -174,6 +174,6 @@ abbrev pub frame_at : Version → Reader Frame
 frame_at version.One = plain_at
 frame_at v = packed_at v
 
--- what stands at the front of these bytes: a frame, the beginning of one, or the first token that breaks a rule
+-- what stands at the front of these bytes: a frame, too few bytes to tell, or a token that breaks a rule
 unfoldable pub front : Version → List ℕ → Front
 front v bytes = front_of (length bytes) (frame_at v bytes)

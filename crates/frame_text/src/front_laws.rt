@@ -4,8 +4,9 @@ ghost use Rattle.frame_text.specs.Codec.{is_packed};
 ghost use Rattle.frame_text.specs.Front.{Broken, Short, Whole};
 ghost use Rattle.frame_text.specs.Frames.{fits, text};
 ghost use Rattle.frame_text.specs.Reading.{front};
+ghost use Rattle.frame_text.specs.Rules.{first_refusal};
 ghost use Rattle.frame_text.specs.Spelling.{AreBytes, FrameIs};
-ghost use Rattle.std.specs.Prelude.{◌≡◌, ◌<◌, ◌≤◌, ◌++◌, ℕ, List, [], length, take, true};
+ghost use Rattle.std.specs.Prelude.{◌≡◌, ◌<◌, ◌≤◌, ◌++◌, ℕ, List, [], length, take, true, Some};
 ghost use Rattle.wire_base.specs.declared.frame.Frame.{Frame};
 ghost use Rattle.wire_base.specs.declared.frame.Version.{Version};
 ghost use Rattle.wire_base.specs.declared.reason.Reason.{Reason};
@@ -57,4 +58,13 @@ pub fn front_is_spelled()
 pub fn front_has_text()
     ensures { (v : Version) (bytes : List ℕ) (f : Frame) (size : ℕ) → AreBytes bytes →
         front v bytes ≡ Whole f size → fits v f ≡ true }
+{}
+
+/// A frame is refused at its first token that breaks a rule, for that rule's reason, and only there.
+#[tactic(auto, using(crate::proofs::Refused::refusals))]
+pub fn front_refuses_the_first()
+    ensures refused { (v : Version) (bytes : List ℕ) (offset : ℕ) (reason : Reason) →
+        front v bytes ≡ Broken offset reason → first_refusal v bytes ≡ Some (offset, reason) }
+    ensures refuses { (v : Version) (bytes : List ℕ) (offset : ℕ) (reason : Reason) →
+        first_refusal v bytes ≡ Some (offset, reason) → front v bytes ≡ Broken offset reason }
 {}

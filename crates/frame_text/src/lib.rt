@@ -5,4 +5,6 @@ mod codec;
 mod front_laws;
 
 pub use codec::FrameCodec;
-pub use front_laws::{front_has_text, front_is_spelled, front_is_steady, front_stands_within};
+pub use front_laws::{
+    front_has_text, front_is_spelled, front_is_steady, front_refuses_the_first, front_stands_within,
+};

@@ -36,7 +36,7 @@ module _ (w : Width) (f : ℕ → TokenHead) where
     | inr le ↦ let got = numbered_got rest le in (le, cc)
   ]
 
-  numbered_not_refused : (rest : List ℕ) (r : Reason) → numbered w f rest ≡ Refused r → ⊥
+  pub numbered_not_refused : (rest : List ℕ) (r : Reason) → numbered w f rest ≡ Refused r → ⊥
   numbered_not_refused rest r e = elim (cases_lt (length rest) (byte_len w)) [
     | inl lt ↦ let short = numbered_short rest lt in cc
     | inr le ↦ let got = numbered_got rest le in cc

@@ -10,3 +10,4 @@ pub mod TokenWithin
 pub mod TokenSteady
 pub mod TokenAgain
 pub mod Fronts
+pub mod Refusals

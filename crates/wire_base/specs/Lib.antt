@@ -15,3 +15,4 @@ pub mod Standard
 pub mod ControlCode
 pub mod Tokens
 pub mod Front
+pub mod Rules
