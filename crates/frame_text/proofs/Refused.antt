@@ -30,17 +30,13 @@ use Rattle.wire_base.specs.Tokens.{Reading, Reader, follow, done, Sort, a_number
 use Rattle.wire_base.specs.Rules.{Due, Judged, passes, cut, breaks, judged, closed, with_text, text_judged, body_size, Refusal, behind, end_refusal, unwanted, natural, has_count, has_count_from, has_length, says_text, field_judged}
 use Rattle.wire_base.proofs.TokenSorts.{is_sort-number, is_sort-str, is_sort-bin, is_sort-array, number-own, bin-own}
 use Rattle.wire_base.proofs.TokenWithin.{tested}
-use Rattle.wire_base.proofs.Refusals.{IsRefused, at_offset, lifted, Step, step-then, seen, meant, IsDue, head-step, token-step, inner-step, field-step, follow-assoc, done-refused, front_of-refused, refused-front_of}
+use Rattle.wire_base.proofs.Refusals.{IsRefused, at_offset, lifted, Step, step-then, seen, meant, IsDue, some_if, number_says, head-step, token-step, inner-step, field-step, follow-assoc, done-refused, front_of-refused, refused-front_of}
 use Rattle.frame_text.specs.Codec.{elements}
 use Rattle.frame_text.specs.Reading.{code_in, id_in, origin_in, name_of, name_at, optional_at, offer_at, accepted_at, processed_at, spoiled, ended, carried, run_of, payload_at, content_at, origin_at, packed_at, plain_of, plain_code, plain_id, plain_carried, plain_content_at, plain_at, frame_at, front}
 use Rattle.frame_text.specs.Rules.{array_due, code_due, id_due, says_source, source_due, payload_due, name_due, count_due, one_due, optional_refusal, name_then, offer_refusal, acceptance_refusal, acknowledgement_refusal, carried_refusal, body_refusal, payload_refusal, code_said, source_then, packed_refusal, plain_carried_refusal, plain_body_refusal, plain_refusal, first_refusal}
 use Rattle.frame_text.proofs.Plain.{not_plain}
 
 -- ---- the tokens that are due
-
-some_if : {A : Type 0} (t : Bool) (x : A) → t ≡ is_some (cond t (Some x) None)
-some_if true x = refl
-some_if false x = refl
 
 either : (a b : Bool) → (a || b) ≡ is_some (cond a (Some false) (cond b (Some true) None))
 either true b = refl
@@ -74,17 +70,6 @@ one_says (token.Map n) = refl
 
 is_one_due : (reason : Reason) → IsDue an_array (only 1) (one_due reason)
 is_one_due reason = record { begins = λ k. refl; says = one_says; own = λ k rest h n own e none. refl }
-
--- a number that passes a test is made into something, and no other
-number_says : {B : Type 0} (test : ℕ → Bool) (make : ℤ → Option B) → ((n : ℕ) → test n ≡ is_some (make (pos n))) → ((k : ℕ) → make (negsuc k) ≡ None) → (h : TokenHead) → natural test h ≡ is_some (meant a_number make h)
-number_says test make some none (token.Whole (pos n)) = some n
-number_says test make some none (token.Whole (negsuc k)) = rw (none k) refl
-number_says test make some none token.Nil = refl
-number_says test make some none (token.Flag v) = refl
-number_says test make some none (token.Str n) = refl
-number_says test make some none (token.Bin n) = refl
-number_says test make some none (token.Array n) = refl
-number_says test make some none (token.Map n) = refl
 
 code_some : (n : ℕ) → nat_lt n 6 ≡ is_some (code_of n)
 code_some n = elim (tested (n == 0)) [

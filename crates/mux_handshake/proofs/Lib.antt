@@ -3,3 +3,4 @@ pub mod Taking
 pub mod Greater
 pub mod Steady
 pub mod Hellos
+pub mod Refused

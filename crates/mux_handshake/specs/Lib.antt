@@ -1,2 +1,3 @@
 pub mod Handshake
 pub mod Shaking
+pub mod Rules

@@ -2,9 +2,10 @@
 
 ghost use Rattle.frame_text.specs.Hello.{hello};
 ghost use Rattle.mux_handshake.specs.Handshake.{handshake, Whole, Short, Broken};
+ghost use Rattle.mux_handshake.specs.Rules.{first_refusal};
 ghost use Rattle.mux_items.specs.Parties.{party_by};
 ghost use Rattle.mux_items.specs.declared.party.Party.{Party};
-ghost use Rattle.std.specs.Prelude.{◌≡◌, ◌≢◌, ◌<◌, ◌≤◌, ◌-◌, ◌++◌, ℕ, List, length, take};
+ghost use Rattle.std.specs.Prelude.{◌≡◌, ◌≢◌, ◌<◌, ◌≤◌, ◌-◌, ◌++◌, ℕ, List, length, take, Some};
 ghost use Rattle.wire_base.specs.declared.frame.Version.{Version};
 ghost use Rattle.wire_base.specs.declared.frame.Version.TheVariants.{Three};
 ghost use Rattle.wire_base.specs.declared.reason.Reason.{Reason};
@@ -35,4 +36,13 @@ pub fn hello_is_a_handshake()
         handshake v own (hello v own ++ rest) ≡ Broken (length (hello v own) - 16) SameNonce }
     ensures cut { (v : Version) (own peer : List ℕ) (n : ℕ) → v ≢ Three → length peer ≡ 16 → n < length (hello v peer) →
         handshake v own (take n (hello v peer)) ≡ Short }
+{}
+
+/// A handshake is refused at its first token that breaks a rule, for that rule's reason, and only there.
+#[tactic(auto, using(crate::proofs::Refused::refusals))]
+pub fn handshake_refuses_the_first()
+    ensures refused { (v : Version) (own bytes : List ℕ) (offset : ℕ) (reason : Reason) →
+        handshake v own bytes ≡ Broken offset reason → first_refusal v own bytes ≡ Some (offset, reason) }
+    ensures refuses { (v : Version) (own bytes : List ℕ) (offset : ℕ) (reason : Reason) →
+        first_refusal v own bytes ≡ Some (offset, reason) → handshake v own bytes ≡ Broken offset reason }
 {}

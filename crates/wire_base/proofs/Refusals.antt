@@ -1,6 +1,6 @@
 -- A reading stops at the first token that breaks a rule.
 use Rattle.std.proofs.Common.{◌≡◌, ℕ, ◌+◌, ◌-◌, ◌≤◌, Bool, true, false, cond, ltb, List, [], ◌∷◌, length, take, drop, Option, Some, None, Result, Ok, Err, refl, ap, subst, ◌∙◌, arith, length-drop, ◌⊎◌, inl, inr}
-use Rattle.std.specs.Prelude.{pos, is_some}
+use Rattle.std.specs.Prelude.{ℤ, pos, negsuc, is_some}
 use Rattle.std.specs.Int.{Width, byte_len, from_be_bytes, cast_signed}
 use Rattle.std.proofs.lemmas.Bool.{ltb-false}
 use Rattle.wire_base.specs.Head.{Kind, whole_head, unsigned, signed, str, bin, array, map, refused, kind_of, head_of, read_kind}
@@ -11,9 +11,9 @@ use Rattle.wire_base.specs.declared.token.HeadStep.TheVariants as step
 use Rattle.wire_base.specs.declared.reason.Reason.{Reason}
 use Rattle.wire_base.specs.declared.reading.Fault.{Fault}
 use Rattle.wire_base.specs.declared.reading.Fault.TheVariants.{Ends, Breaks}
-use Rattle.wire_base.specs.Tokens.{Reading, Reader, follow, done, Sort, unfinished, allowed, headed, head_at, token_at, inside, inner_at, field_at}
+use Rattle.wire_base.specs.Tokens.{Reading, Reader, follow, done, Sort, a_number, unfinished, allowed, headed, head_at, token_at, inside, inner_at, field_at}
 use Rattle.wire_base.specs.Front.{Whole, Short, Broken, front_of}
-use Rattle.wire_base.specs.Rules.{Due, Judged, passes, cut, breaks, judged_head, by_first, judged, closed, Refusal, further, behind, field_judged}
+use Rattle.wire_base.specs.Rules.{Due, Judged, passes, cut, breaks, judged_head, by_first, judged, closed, Refusal, further, behind, natural, field_judged}
 use Rattle.wire_base.proofs.HeadLemmas.{head_within, numbered_not_refused}
 use Rattle.wire_base.proofs.TokenSorts.{IsSort}
 use Rattle.wire_base.proofs.TokenWithin.{tested}
@@ -115,6 +115,23 @@ module _ {A B : Type 0} (sort : Sort A) (make : A → Option B) (due : Due) (is 
   pub inner-step : due.wrong ≡ due.other → (bytes : List ℕ) → Step (λ h y. meant sort make h ≡ Some y) bytes (closed due.other (judged due bytes)) (inner_at sort make due.other bytes)
   unfolding inner_at
   inner-step same bytes = inside-step (λ h y. meant sort make h ≡ Some y) bytes (judged due bytes) (token_at sort make due.other bytes) due.other (token-step same bytes)
+
+-- ---- tests of what is said
+
+pub some_if : {A : Type 0} (t : Bool) (x : A) → t ≡ is_some (cond t (Some x) None)
+some_if true x = refl
+some_if false x = refl
+
+-- a number that passes a test is made into something, and no other
+pub number_says : {B : Type 0} (test : ℕ → Bool) (make : ℤ → Option B) → ((n : ℕ) → test n ≡ is_some (make (pos n))) → ((k : ℕ) → make (negsuc k) ≡ None) → (h : TokenHead) → natural test h ≡ is_some (meant a_number make h)
+number_says test make some none (token.Whole (pos n)) = some n
+number_says test make some none (token.Whole (negsuc k)) = rw (none k) refl
+number_says test make some none token.Nil = refl
+number_says test make some none (token.Flag v) = refl
+number_says test make some none (token.Str n) = refl
+number_says test make some none (token.Bin n) = refl
+number_says test make some none (token.Array n) = refl
+number_says test make some none (token.Map n) = refl
 
 -- ---- fields of a fixed width
 
