@@ -1,0 +1,8 @@
+pub mod FieldLemmas
+pub mod LineLemmas
+pub mod Parts
+pub mod HeaderLemmas
+pub mod FrontLemmas
+pub mod Streams
+pub mod WrapLemmas
+pub mod OneStream

@@ -1,0 +1,117 @@
+-- Readings of streams, as pieces come and bodies go.
+use Rattle.std.proofs.Common.{◌≡◌, ℕ, ◌+◌, ◌<◌, ◌≤◌, ◌⊎◌, inl, inr, List, [], ◌∷◌, ◌++◌, length, take, drop, refl, sym, ap, subst, ◌∙◌, arith, length-append, length-drop}
+use Rattle.std.proofs.lemmas.List.{drop-append-le, take-append-le}
+use Rattle.wire_base.specs.declared.place.Place.{Place}
+use Rattle.wire_base.specs.declared.reason.Reason.{Reason}
+use Rattle.message_framing.specs.declared.framing.Framing.{Framing}
+use Rattle.message_framing.specs.declared.front.Front.TheVariants.{Whole, Short, Broken}
+use Rattle.message_framing.specs.declared.next_body.NextBody.{NextBody}
+use Rattle.message_framing.specs.declared.next_body.NextBody.TheVariants as next
+use Rattle.message_framing.specs.Front.{front}
+use Rattle.message_framing.specs.Unread.{Unread, with_piece, without_front}
+use Rattle.message_framing.specs.Answers.{Answers, Gives, RefusesAt}
+use Rattle.message_framing.specs.Reads.{First, Begins, Reads, Follows, given_with}
+use Rattle.message_framing.proofs.FrontLemmas.{whole_within, front_stays, broken_stays}
+
+abbrev pub Placed : Type 0
+Placed = ℕ × List ℕ
+
+body_stays : (start size : ℕ) (stream more : List ℕ) → start + size ≤ length stream → take size (drop start stream) ≡ take size (drop start (stream ++ more))
+body_stays start size stream more h =
+    sym (take-append-le size (drop start stream) more (omega (arith, length-drop start stream)))
+    ∙ ap (λ (s : List ℕ). take size s) (sym (drop-append-le start stream more (omega arith)))
+
+first-more : (f : Framing) (at : ℕ) (stream more : List ℕ) (x : Placed) → (m : First f at stream x) → First f at (stream ++ more) x
+first-more f at stream more x m =
+    let within = whole_within f stream m.start m.size m.whole in
+    record {
+      start = m.start;
+      size = m.size;
+      whole = front_stays f stream more m.start m.size m.whole;
+      place_is = m.place_is;
+      body_is = m.body_is ∙ body_stays m.start m.size stream more within.1;
+    }
+
+-- more of the stream stands behind the rest
+pub begins-more : (f : Framing) (at : ℕ) (stream : List ℕ) (given : List Placed) (rest more : List ℕ) → Begins f at stream given rest → Begins f at (stream ++ more) given (rest ++ more)
+unfolding first-more
+begins-more f at stream [] rest more h = ap (λ (s : List ℕ). s ++ more) h
+begins-more f at stream (x ∷ xs) rest more h =
+    let m = h.0 in
+    let within = whole_within f stream m.start m.size m.whole in
+    let then : Begins f (at + (m.start + m.size)) (drop (m.start + m.size) stream ++ more) xs (rest ++ more) = begins-more f (at + (m.start + m.size)) (drop (m.start + m.size) stream) xs rest more h.1 in
+    (first-more f at stream more x m, rw (drop-append-le (m.start + m.size) stream more within.1) then)
+
+-- the message at the front of the rest is the next
+pub begins-next : (f : Framing) (at : ℕ) (stream : List ℕ) (given : List Placed) (rest : List ℕ) (there start size : ℕ) (x : Placed) → Begins f at stream given rest → front f rest ≡ Whole start size → x.0 ≡ there + start → x.1 ≡ take size (drop start rest)
+    → there + length rest ≡ at + length stream → Begins f at stream (given ++ x ∷ []) (drop (start + size) rest)
+begins-next f at stream [] rest there start size x h e place body p =
+    let same : length stream ≡ length rest = ap length h in
+    let m : First f at stream x = record { start = start; size = size; whole = rw h e; place_is = omega (arith, place, p, same); body_is = rw h body } in
+    (m, ap (drop (start + size)) h)
+begins-next f at stream (y ∷ ys) rest there start size x h e place body p =
+    let m = h.0 in
+    let end = m.start + m.size in
+    let within = whole_within f stream m.start m.size m.whole in
+    let later : there + length rest ≡ (at + end) + length (drop end stream) = omega (arith, p, within.1, length-drop end stream) in
+    (m, begins-next f (at + end) (drop end stream) ys rest there start size x h.1 e place body later)
+
+reads-piece : (reader : Unread) (stream : List ℕ) (given : List Placed) (piece : List ℕ) → Reads reader stream given → Reads (with_piece piece reader) (stream ++ piece) given
+reads-piece reader stream given piece h = record {
+  begins = begins-more reader.framing 0 stream given reader.rest piece h.begins;
+  place_is = omega (arith, h.place_is, length-append reader.rest piece, length-append stream piece);
+  fed_is = omega (arith, h.fed_is, length-append stream piece);
+}
+
+pub reads-fed : (old new : Unread) (stream : List ℕ) (given : List Placed) (piece : List ℕ) → new ≡ with_piece piece old → Reads old stream given → Reads new (stream ++ piece) given
+reads-fed old new stream given piece e h = rw e (reads-piece old stream given piece h)
+
+begins-given : (old new : Unread) (place : Place) (body : List ℕ) (stream : List ℕ) (given : List Placed) → (a : Gives old new place body) → Reads old stream given → Begins old.framing 0 stream (given ++ (place.0, body) ∷ []) (drop (a.start + a.size) old.rest)
+begins-given old new place body stream given a h =
+    begins-next old.framing 0 stream given old.rest old.at a.start a.size (place.0, body) h.begins a.whole a.place_is a.body_is (omega (arith, h.place_is))
+
+reads-body : (old new : Unread) (place : Place) (body : List ℕ) (stream : List ℕ) (given : List Placed) → (a : Gives old new place body) → Reads old stream given → Reads (without_front (a.start + a.size) old) stream (given ++ (place.0, body) ∷ [])
+reads-body old new place body stream given a h =
+    let within = whole_within old.framing old.rest a.start a.size a.whole in
+    record {
+      begins = begins-given old new place body stream given a h;
+      place_is = omega (arith, h.place_is, within.1, length-drop (a.start + a.size) old.rest);
+      fed_is = h.fed_is;
+    }
+
+pub reads-answer : (answer : NextBody) (old new : Unread) (stream : List ℕ) (given : List Placed) → Answers answer old new → Reads old stream given → Reads new stream (given_with answer given)
+reads-answer (next.Body place body) old new stream given a h = rw a.then (reads-body old new place body stream given a h)
+reads-answer next.Short old new stream given a h = rw a.1 h
+reads-answer (next.Refused place reason) old new stream given a h = rw a.1 h
+reads-answer next.OutOfMemory old new stream given a h = rw a h
+
+pub answer-follows : (answer : NextBody) (old new : Unread) (stream : List ℕ) (given : List Placed) → Answers answer old new → Reads old stream given → Follows old.framing stream given answer
+answer-follows (next.Body place body) old new stream given a h = (drop (a.start + a.size) old.rest, begins-given old new place body stream given a h)
+answer-follows next.Short old new stream given a h = (old.rest, h.begins, a.0)
+answer-follows (next.Refused place reason) old new stream given a h =
+    record { rest = old.rest; offset = a.0.offset; begins = h.begins; broken = a.0.broken; place_is = omega (arith, h.place_is, a.0.place_is) }
+answer-follows next.OutOfMemory old new stream given a h = tt
+
+pub refuses-more : (old new : Unread) (piece : List ℕ) (place : Place) (reason : Reason) → new ≡ with_piece piece old → RefusesAt old place reason → RefusesAt new place reason
+refuses-more old new piece place reason e h = rw e (record { offset = h.offset; broken = broken_stays old.framing old.rest piece h.offset reason h.broken; place_is = h.place_is })
+
+place_is : (p q : Place) → p.0 ≡ q.0 → p ≡ q
+place_is p q e = subst (λ n. p ≡ record { 0 = n }) e refl
+
+pub refuses-again : (answer : NextBody) (old new : Unread) (place : Place) (reason : Reason) → Answers answer old new → RefusesAt old place reason → (answer ≡ next.Refused place reason) ⊎ (answer ≡ next.OutOfMemory)
+refuses-again (next.Body at body) old new place reason a h = absurd (let e : Whole a.start a.size ≡ Broken h.offset reason = sym a.whole ∙ h.broken in cc)
+refuses-again next.Short old new place reason a h = absurd (let e : Short ≡ Broken h.offset reason = sym a.0 ∙ h.broken in cc)
+refuses-again (next.Refused at cause) old new place reason a h =
+    let e : Broken a.0.offset cause ≡ Broken h.offset reason = sym a.0.broken ∙ h.broken in
+    let offset : a.0.offset ≡ h.offset = cc in
+    let same : cause ≡ reason = cc in
+    let there : at ≡ place = place_is at place (omega (arith, a.0.place_is, h.place_is, offset)) in
+    inl cc
+refuses-again next.OutOfMemory old new place reason a h = inr refl
+
+pub shorter-body : (old new : Unread) (place : Place) (body : List ℕ) → Answers (next.Body place body) old new → length new.rest < length old.rest
+shorter-body old new place body a =
+    let within = whole_within old.framing old.rest a.start a.size a.whole in
+    rw a.then (omega (arith, within.0, within.1, length-drop (a.start + a.size) old.rest))
+
+pub ruleset answers = (refuses-again, shorter-body)

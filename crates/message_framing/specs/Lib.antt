@@ -1,0 +1,9 @@
+pub mod Lines
+pub mod Fields
+pub mod Header
+pub mod Front
+pub mod Wrapped
+pub mod Unread
+pub mod Holds
+pub mod Answers
+pub mod Reads
