@@ -9,7 +9,7 @@ use Rattle.frame_text.specs.Codec.{is_packed, elements}
 use Rattle.wire_base.specs.Shortest.{bin_head}
 use Rattle.frame_text.specs.Frames.{text, packed_text, fits, payload_text}
 use Rattle.frame_pack.specs.Parts.{front_text}
-use Rattle.frame_pack.proofs.Extending.{extends-same, extends-after}
+use Rattle.wire_base.proofs.Keeps.{keeps_same, keeps_through}
 
 text-packed : (v : Version) (f : Frame) → is_packed v ≡ true → text v f ≡ packed_text (elements v) f
 text-packed version.One f e = absurd cc
@@ -37,4 +37,4 @@ fits-length version.One f p e = absurd cc
 fits-length version.Two f p e = leb-true (length (payload_text f.payload)) 0x100000 (and_parts _ _ e).1
 fits-length version.Three f p e = leb-true (length (payload_text f.payload)) 0x100000 (and_parts _ _ e).1
 
-pub ruleset writing = (text-empty, text-full, fits-length, extends-same, extends-after, append_assoc)
+pub ruleset writing = (text-empty, text-full, fits-length, keeps_same, keeps_through, append_assoc)

@@ -1,4 +1,3 @@
 pub mod Steps
-pub mod Extending
 pub mod Lengths
 pub mod FrameTexts

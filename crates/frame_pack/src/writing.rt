@@ -1,10 +1,10 @@
 //! Shortest spellings, written.
 
-ghost use Rattle.frame_pack.specs.Extends.{Extends};
 ghost use Rattle.frame_pack.specs.Parts.{front_text};
 ghost use Rattle.frame_text.specs.Codec.{is_packed};
 ghost use Rattle.frame_text.specs.Frames.{code_number, fits, origin_text, payload_text, str_text, text};
 ghost use Rattle.std.specs.Prelude.{◌≡◌, ◌<◌, ◌≤◌, ◌^◌, ◌++◌, length, true, OnOk, OnErr};
+ghost use Rattle.wire_base.specs.Appends.{KeepsFront};
 
 use crate::fits::payload_len;
 use crate::reading::least_elements;
@@ -13,10 +13,10 @@ use wire_base::{
     push_str_head, push_unsigned,
 };
 
-#[tactic(auto, using(crate::proofs::Extending::extending))]
+#[tactic(auto, using(wire_base::proofs::Keeps::keeping))]
 fn push_origin(origin: Origin, out: &mut Vec<u8>) -> Result<(), OutOfMemory>
     ensures ok { OnOk result (out.new.items ≡ out.old.items ++ origin_text origin) }
-    ensures err { OnErr result (Extends out.old.items out.new.items) }
+    ensures err { OnErr result (KeepsFront out.old.items out.new.items) }
 {
     match origin {
         Origin::Sender => out.push(0x01)?,
@@ -26,11 +26,11 @@ fn push_origin(origin: Origin, out: &mut Vec<u8>) -> Result<(), OutOfMemory>
     Ok(())
 }
 
-#[tactic(auto, using(crate::proofs::Extending::extending))]
+#[tactic(auto, using(wire_base::proofs::Keeps::keeping))]
 fn push_str(text: &Text, out: &mut Vec<u8>) -> Result<(), OutOfMemory>
     requires { length text.now < 2 ^ 32 }
     ensures ok { OnOk result (out.new.items ≡ out.old.items ++ str_text text.now) }
-    ensures err { OnErr result (Extends out.old.items out.new.items) }
+    ensures err { OnErr result (KeepsFront out.old.items out.new.items) }
 {
     let bytes = text.as_str().as_bytes();
     push_str_head(out, bytes.len() as u32)?;
@@ -38,11 +38,11 @@ fn push_str(text: &Text, out: &mut Vec<u8>) -> Result<(), OutOfMemory>
     Ok(())
 }
 
-#[tactic(auto, using(crate::proofs::Extending::extending))]
+#[tactic(auto, using(wire_base::proofs::Keeps::keeping))]
 fn push_payload(payload: &Payload, out: &mut Vec<u8>) -> Result<(), OutOfMemory>
     requires { length (payload_text payload.now) < 2 ^ 32 }
     ensures ok { OnOk result (out.new.items ≡ out.old.items ++ payload_text payload.now) }
-    ensures err { OnErr result (Extends out.old.items out.new.items) }
+    ensures err { OnErr result (KeepsFront out.old.items out.new.items) }
 {
     match payload {
         Payload::Offer(name, None) => {
@@ -72,15 +72,16 @@ fn push_payload(payload: &Payload, out: &mut Vec<u8>) -> Result<(), OutOfMemory>
 }
 
 /// All of a frame but its payload.
-#[tactic(auto, using(crate::proofs::Extending::extending))]
+#[tactic(auto, using(wire_base::proofs::Keeps::keeping))]
 fn push_front(elements: u32, frame: &Frame, out: &mut Vec<u8>) -> Result<(), OutOfMemory>
     ensures ok { OnOk result (out.new.items ≡ out.old.items ++ front_text elements frame.now) }
-    ensures err { OnErr result (Extends out.old.items out.new.items) }
+    ensures err { OnErr result (KeepsFront out.old.items out.new.items) }
 {
     push_array_head(out, elements)?;
     push_unsigned(out, frame.code.number().into())?;
     push_unsigned(out, frame.id)?;
-    push_origin(frame.origin, out)
+    push_origin(frame.origin, out)?;
+    Ok(())
 }
 
 /// The shortest spelling of a frame of version 2 or 3.
@@ -89,7 +90,7 @@ pub fn push_frame(version: Version, frame: &Frame, out: &mut Vec<u8>) -> Result<
     requires packed { is_packed version ≡ true }
     requires fits { fits version frame.now ≡ true }
     ensures ok { OnOk result (out.new.items ≡ out.old.items ++ text version frame.now) }
-    ensures err { OnErr result (Extends out.old.items out.new.items) }
+    ensures err { OnErr result (KeepsFront out.old.items out.new.items) }
 {
     let elements = least_elements(version);
     let len = payload_len(&frame.payload);

@@ -7,7 +7,7 @@ use Rattle.wire_base.specs.declared.reason.Reason.{Reason}
 use Rattle.frame_text.specs.Front.{Whole, Broken}
 use Rattle.frame_text.specs.Reading.{front}
 use Rattle.frame_text.specs.Spelling.{AreFrames, IsBrokenStream}
-use Rattle.frame_text.proofs.Laws.{front_within, every_front_spelled, every_spelled_front}
+use Rattle.frame_text.proofs.Laws.{front_within, every_front_spelled, every_spelled_front, broken_first, first_broken}
 use Rattle.frame_reader.specs.Reads.{Begins, BreaksAfter, HasNone}
 use Rattle.frame_reader.proofs.Streams.{Placed}
 
@@ -49,12 +49,12 @@ refused_breaks v start stream given place reason h = record {
   rest = h.rest;
   offset = h.offset;
   are_frames = frames_read v start stream given h.rest h.begins (broken_none v h.rest h.offset reason h.broken);
-  broken = h.broken;
+  broken = broken_first v h.rest h.offset reason h.broken;
   place_is = h.place_is;
 }
 
 pub broken_refused : (v : Version) (start : ℕ) (stream : List ℕ) (place : ℕ) (reason : Reason) → IsBrokenStream v start stream place reason → (given : List Placed) × BreaksAfter v start stream given place reason
 broken_refused v start stream place reason h =
-    (h.frames, record { rest = h.rest; offset = h.offset; begins = (read_as v start stream h.frames h.rest h.are_frames).begins; broken = h.broken; place_is = h.place_is })
+    (h.frames, record { rest = h.rest; offset = h.offset; begins = (read_as v start stream h.frames h.rest h.are_frames).begins; broken = first_broken v h.rest h.offset reason h.broken; place_is = h.place_is })
 
 pub ruleset spelled = (frames_read, frames_begin, refused_breaks, broken_refused)

@@ -7,7 +7,7 @@ use wire_base::{Frame, Place, Reason};
 pub enum Next {
     /// The next frame, and the place of its first byte.
     Frame(Place, Frame),
-    /// The bytes that are left are less than a frame, and may begin one.
+    /// The bytes that are left are less than a frame: too few bytes to tell.
     Short,
     /// A token at this place breaks a rule. The reader answers so for good, whatever it is fed.
     Refused(Place, Reason),

@@ -4,9 +4,7 @@ use Rattle.std.specs.Prelude.{pos, negsuc}
 use Rattle.std.proofs.lemmas.Bool.{le-ltb, lt-ltb, eq-eqb, ne_eqb}
 use Rattle.std.proofs.lemmas.List.{take_at, drop_at, append-nil}
 use Rattle.std.specs.Str.{is_utf8}
-use Rattle.wire_base.specs.declared.token.TokenHead.{TokenHead}
 use Rattle.wire_base.specs.declared.token.TokenHead.TheVariants as token
-use Rattle.wire_base.specs.declared.token.HeadStep.TheVariants as step
 use Rattle.wire_base.specs.declared.reason.Reason.{Reason}
 use Rattle.wire_base.specs.declared.reason.Reason.TheVariants.{BadCode, BadShape, BadId, BadSource, BadOffer, BadAcceptance, BadProcessed}
 use Rattle.wire_base.specs.declared.frame.Version.{Version}
@@ -21,7 +19,7 @@ use Rattle.wire_base.specs.declared.frame.Frame.{Frame}
 use Rattle.frame_text.specs.Codec.{is_packed, elements}
 use Rattle.frame_text.specs.Frames.{code_number}
 use Rattle.frame_text.specs.Front.{Whole}
-use Rattle.frame_text.specs.Reading.{Reading, follow, done, Sort, a_number, a_str, a_bin, an_array, allowed, headed, head_at, token_at, inside, inner_at, code_in, id_in, origin_in, count_in, last_in, only, name_of, name_at, optional_at, offer_at, accepted_at, processed_at, ended, carried, placed, run_of, payload_at, content_at, origin_at, packed_at, frame_at, front}
+use Rattle.frame_text.specs.Reading.{Reading, follow, done, a_number, a_str, a_bin, an_array, head_at, inner_at, code_in, id_in, origin_in, count_in, last_in, only, name_of, name_at, optional_at, offer_at, accepted_at, processed_at, ended, carried, placed, run_of, payload_at, content_at, origin_at, packed_at, frame_at, front}
 use Rattle.wire_base.specs.Front.{front_of}
 use Rattle.frame_text.specs.Spelling.{IsHead, IsOptional, with_optional, IsName, IsOffer, IsAcceptance, IsAcknowledgement, Carries, IsSource, IsElement, PackedFrameIs, FrameIs}
 use Rattle.wire_base.proofs.TokenAgain.{head_at-again, token_at-again, inner_at-again, count_in-again}

@@ -1,7 +1,7 @@
 -- A frame is refused at its first token that breaks a rule.
-use Rattle.std.proofs.Common.{◌≡◌, ℕ, zero, suc, ◌+◌, ◌-◌, ◌≤◌, ◌<◌, Bool, true, false, cond, ltb, List, [], ◌∷◌, ◌++◌, length, take, drop, Option, Some, None, Result, Ok, Err, refl, sym, ap, subst, ◌∙◌, arith, length-drop, inl, inr}
-use Rattle.std.specs.Prelude.{ℤ, pos, negsuc, is_some, not, ◌&&◌, ◌||◌, ◌==◌, nat_lt}
-use Rattle.std.specs.Int.{Width, w8, w16, w32, byte_len, from_be_bytes, cast_signed}
+use Rattle.std.proofs.Common.{◌≡◌, ℕ, ◌+◌, ◌-◌, ◌≤◌, Bool, true, false, cond, ltb, List, [], ◌∷◌, length, take, drop, Option, Some, None, Result, Ok, Err, refl, sym, ap, ◌∙◌, arith, length-drop, inl, inr}
+use Rattle.std.specs.Prelude.{pos, negsuc, is_some, not, ◌&&◌, ◌||◌, ◌==◌, nat_lt}
+use Rattle.std.specs.Int.{w8, w16, w32, byte_len, from_be_bytes, cast_signed}
 use Rattle.std.specs.Str.{is_utf8}
 use Rattle.std.proofs.lemmas.Bool.{ltb-false, le-ltb, lt-ltb, eqb-true, eqb-false, ne_eqb}
 use Rattle.std.proofs.lemmas.List.{length-take, drop-drop}
@@ -9,7 +9,6 @@ use Rattle.wire_base.specs.declared.limits.TheConstants.{COUNT_LIMIT, MAX_PAYLOA
 use Rattle.wire_base.specs.Head.{Kind, whole_head, unsigned, signed, str, bin, array, map, refused, kind_of, head_of, read_kind}
 use Rattle.wire_base.specs.declared.token.TokenHead.{TokenHead}
 use Rattle.wire_base.specs.declared.token.TokenHead.TheVariants as token
-use Rattle.wire_base.specs.declared.token.HeadStep.{HeadStep}
 use Rattle.wire_base.specs.declared.token.HeadStep.TheVariants as step
 use Rattle.wire_base.specs.declared.reason.Reason.{Reason}
 use Rattle.wire_base.specs.declared.reason.Reason.TheVariants.{BadCode, BadShape, BadId, BadSource, PayloadTooLong, BadOffer, BadAcceptance, BadProcessed, BadName}
@@ -26,13 +25,13 @@ use Rattle.wire_base.specs.declared.frame.Payload.TheVariants as payload
 use Rattle.wire_base.specs.declared.frame.Frame.{Frame}
 use Rattle.wire_base.specs.ControlCode.{code_of}
 use Rattle.wire_base.specs.Front.{Broken}
-use Rattle.wire_base.specs.Tokens.{Reading, Reader, follow, done, Sort, a_number, a_str, a_bin, an_array, number_in, allowed, inside, head_at, inner_at, token_at, field_at, bytes_at, placed, count_in, last_in, only}
-use Rattle.wire_base.specs.Rules.{Due, Judged, passes, cut, breaks, judged, closed, with_text, text_judged, body_size, Refusal, behind, end_refusal, unwanted, natural, has_count, has_count_from, has_length, says_text, field_judged}
-use Rattle.wire_base.proofs.TokenSorts.{is_sort-number, is_sort-str, is_sort-bin, is_sort-array, number-own, bin-own}
+use Rattle.wire_base.specs.Tokens.{Reading, follow, done, a_number, a_str, a_bin, an_array, allowed, inside, head_at, inner_at, token_at, field_at, bytes_at, placed, count_in, last_in, only}
+use Rattle.wire_base.specs.Rules.{Judged, passes, cut, breaks, judged, closed, with_text, text_judged, body_size, Refusal, end_refusal, unwanted, has_count, has_count_from, has_length, says_text, field_judged}
+use Rattle.wire_base.proofs.TokenSorts.{is_sort-number, is_sort-str, is_sort-bin, is_sort-array, bin-own}
 use Rattle.wire_base.proofs.TokenWithin.{tested}
-use Rattle.wire_base.proofs.Refusals.{IsRefused, at_offset, lifted, Step, step-then, seen, meant, IsDue, some_if, number_says, head-step, token-step, inner-step, field-step, follow-assoc, done-refused, front_of-refused, refused-front_of}
+use Rattle.wire_base.proofs.Refusals.{IsRefused, at_offset, Step, step-then, meant, IsDue, some_if, number_says, head-step, token-step, inner-step, field-step, follow-assoc, done-refused, front_of-refused, refused-front_of}
 use Rattle.frame_text.specs.Codec.{elements}
-use Rattle.frame_text.specs.Reading.{code_in, id_in, origin_in, name_of, name_at, optional_at, offer_at, accepted_at, processed_at, spoiled, ended, carried, run_of, payload_at, content_at, origin_at, packed_at, plain_of, plain_code, plain_id, plain_carried, plain_content_at, plain_at, frame_at, front}
+use Rattle.frame_text.specs.Reading.{code_in, id_in, origin_in, name_of, name_at, optional_at, offer_at, accepted_at, processed_at, spoiled, ended, carried, run_of, payload_at, content_at, origin_at, packed_at, plain_code, plain_id, plain_carried, plain_content_at, plain_at, frame_at, front}
 use Rattle.frame_text.specs.Rules.{array_due, code_due, id_due, says_source, source_due, payload_due, name_due, count_due, one_due, optional_refusal, name_then, offer_refusal, acceptance_refusal, acknowledgement_refusal, carried_refusal, body_refusal, payload_refusal, code_said, source_then, packed_refusal, plain_carried_refusal, plain_body_refusal, plain_refusal, first_refusal}
 use Rattle.frame_text.proofs.Plain.{not_plain}
 

@@ -1,11 +1,8 @@
 -- What was read stays so, whatever follows.
-use Rattle.std.proofs.Common.{◌≡◌, ℕ, ◌+◌, ◌-◌, ◌≤◌, ◌<◌, Bool, true, false, ltb, List, [], ◌∷◌, ◌++◌, length, take, drop, Option, Some, None, Result, Ok, Err, refl, sym, ap, subst, ◌∙◌, arith, length-append, add_assoc, inl, inr, ◌⊎◌}
-use Rattle.std.specs.Int.{Width, w8, w16, w32, byte_len, from_be_bytes}
+use Rattle.std.proofs.Common.{◌≡◌, ℕ, ◌+◌, ◌≤◌, ◌<◌, Bool, true, false, ltb, List, ◌++◌, length, Some, Ok, Err, refl, sym, subst, arith, length-append, inl, inr}
+use Rattle.std.specs.Int.{w8, w16, w32}
 use Rattle.std.proofs.lemmas.Bool.{ltb-false, le-ltb}
 use Rattle.std.proofs.lemmas.List.{take-append-le, drop-append-le}
-use Rattle.wire_base.specs.Head.{Kind, kind_of, head_of, read_kind}
-use Rattle.wire_base.specs.declared.token.HeadStep.{HeadStep}
-use Rattle.wire_base.specs.declared.token.HeadStep.TheVariants as step
 use Rattle.wire_base.specs.declared.reason.Reason.{Reason}
 use Rattle.wire_base.specs.declared.reason.Reason.TheVariants.{BadCode, BadShape, BadId, BadSource}
 use Rattle.wire_base.specs.declared.frame.Version.{Version}
@@ -13,11 +10,10 @@ use Rattle.wire_base.specs.declared.frame.Version.TheVariants as version
 use Rattle.wire_base.specs.declared.frame.Code.{Code}
 use Rattle.wire_base.specs.declared.frame.Origin.TheVariants as origin
 use Rattle.wire_base.specs.declared.frame.Frame.{Frame}
-use Rattle.wire_base.specs.declared.reading.Fault.{Fault}
 use Rattle.wire_base.specs.declared.reading.Fault.TheVariants.{Ends, Breaks}
 use Rattle.frame_text.specs.Codec.{elements}
 use Rattle.frame_text.specs.Front.{Front, Whole, Short, Broken}
-use Rattle.frame_text.specs.Reading.{Reading, Reader, follow, ◌>>=◌, done, Sort, a_number, a_bin, an_array, unfinished, allowed, headed, head_at, token_at, code_in, id_in, origin_in, last_in, carried, placed, run_of, payload_at, content_at, origin_at, packed_at, field_at, bytes_at, plain_code, plain_id, plain_carried, plain_content_at, plain_at, frame_at, front}
+use Rattle.frame_text.specs.Reading.{Reading, follow, a_number, a_bin, an_array, head_at, token_at, code_in, id_in, origin_in, last_in, carried, placed, run_of, payload_at, content_at, origin_at, packed_at, field_at, bytes_at, plain_code, plain_id, plain_carried, plain_content_at, plain_at, frame_at, front}
 use Rattle.wire_base.specs.Front.{front_of}
 use Rattle.wire_base.proofs.TokenSorts.{is_sort-number, is_sort-bin, is_sort-array}
 use Rattle.wire_base.proofs.TokenSteady.{IsSteady, Steady, steady-then, steady-done, head_at-steady, token_at-steady, field_at-steady, bytes_at-steady, placed-steady}

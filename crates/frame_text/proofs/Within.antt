@@ -1,13 +1,11 @@
 -- A reading stops within the bytes that it was given, and near their front.
-use Rattle.std.proofs.Common.{◌≡◌, ℕ, ◌+◌, ◌≤◌, ◌<◌, Bool, true, false, cond, ltb, List, [], ◌∷◌, length, take, drop, Option, Some, None, Result, Ok, Err, refl, arith, length-drop, ◌⊎◌, inl, inr, subst}
+use Rattle.std.proofs.Common.{◌≡◌, ℕ, ◌+◌, ◌≤◌, ◌<◌, Bool, true, false, cond, ltb, List, length, take, drop, Some, None, Result, Ok, Err, arith, length-drop, inl, inr, subst}
 use Rattle.std.specs.Prelude.{◌==◌}
-use Rattle.std.specs.Int.{Width, w8, w16, w32, byte_len, from_be_bytes}
+use Rattle.std.specs.Int.{w8, w16, w32}
 use Rattle.std.specs.Str.{is_utf8}
 use Rattle.std.proofs.lemmas.Bool.{ltb-false}
 use Rattle.std.proofs.lemmas.List.{length-take}
-use Rattle.wire_base.specs.Head.{kind_of, head_of}
-use Rattle.wire_base.specs.declared.token.HeadStep.{HeadStep}
-use Rattle.wire_base.specs.declared.token.HeadStep.TheVariants as step
+use Rattle.wire_base.specs.Head.{head_of}
 use Rattle.wire_base.specs.declared.reason.Reason.{Reason}
 use Rattle.wire_base.specs.declared.reason.Reason.TheVariants.{BadCode, BadShape, BadId, BadSource, BadOffer, BadAcceptance, BadProcessed, BadName}
 use Rattle.wire_base.specs.declared.frame.Version.{Version}
@@ -20,11 +18,11 @@ use Rattle.wire_base.specs.declared.frame.Payload.TheVariants as payload
 use Rattle.wire_base.specs.declared.frame.Frame.{Frame}
 use Rattle.wire_base.specs.declared.reading.Fault.{Fault}
 use Rattle.wire_base.specs.declared.reading.Fault.TheVariants.{Ends, Breaks}
-use Rattle.frame_text.specs.Reading.{Reading, Reader, follow, ◌>>=◌, done, Sort, a_number, a_str, a_bin, an_array, unfinished, allowed, headed, head_at, token_at, inside, inner_at, code_in, id_in, origin_in, count_in, last_in, only, name_of, name_at, optional_at, offer_at, accepted_at, processed_at, spoiled, ended, carried, placed, run_of, payload_at, content_at, origin_at, packed_at, field_at, bytes_at, plain_code, plain_id, plain_carried, plain_content_at, plain_at, frame_at, front}
+use Rattle.frame_text.specs.Reading.{Reading, follow, done, a_number, a_str, a_bin, an_array, head_at, token_at, inner_at, code_in, id_in, origin_in, count_in, last_in, only, name_of, name_at, optional_at, offer_at, accepted_at, processed_at, spoiled, ended, carried, placed, run_of, payload_at, content_at, origin_at, packed_at, field_at, bytes_at, plain_code, plain_id, plain_carried, plain_content_at, plain_at, frame_at, front}
 use Rattle.wire_base.specs.Front.{front_of}
 use Rattle.frame_text.specs.Front.{Front, Whole, Short, Broken}
 use Rattle.frame_text.specs.Codec.{is_packed, elements}
-use Rattle.wire_base.proofs.TokenWithin.{tested, IsWithin, Stops, follow-within, stops-then, stops-done, head_at-stops, allowed-within, token_at-stops, inner_at-stops, IsBelow, Ends-below, below-stops, lower, below-then, below-done, inner_at-below, field_at-stops, field_at-below, IsCut, bytes_at-is, IsProper, proper-from, proper-lower, proper-follow}
+use Rattle.wire_base.proofs.TokenWithin.{tested, IsWithin, Stops, stops-then, stops-done, head_at-stops, token_at-stops, IsBelow, Ends-below, below-then, below-done, inner_at-below, field_at-stops, field_at-below, IsCut, bytes_at-is, IsProper, proper-from, proper-follow}
 use Rattle.wire_base.proofs.Fronts.{IsFrontWithin, front_of-within}
 
 -- ---- payloads

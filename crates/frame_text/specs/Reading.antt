@@ -1,11 +1,9 @@
 -- Reading a frame from left to right, token by token, up to the first token that breaks a rule.
-use Rattle.std.specs.Prelude.{◌≡◌, ℕ, ◌+◌, ◌-◌, List, [], ◌∷◌, length, take, drop, ℤ, pos, negsuc, Bool, true, false, ◌&&◌, nat_lt, ◌==◌, if◌then◌else◌, Option, Some, None, Result, Ok, Err}
-use Rattle.std.specs.Int.{Width, w8, w16, w32, byte_len, from_be_bytes}
+use Rattle.std.specs.Prelude.{ℕ, List, [], length, take, drop, ℤ, pos, negsuc, Bool, true, false, ◌&&◌, nat_lt, ◌==◌, if◌then◌else◌, Option, Some, None, Result, Ok, Err}
+use Rattle.std.specs.Int.{w8, w16, w32}
 use Rattle.std.specs.Str.{is_utf8}
 use Rattle.wire_base.specs.declared.limits.TheConstants.{COUNT_LIMIT, MAX_PAYLOAD}
-use Rattle.wire_base.specs.Head.{Kind, whole_head, unsigned, signed, str, bin, array, kind_of, head_of}
-use Rattle.wire_base.specs.declared.token.TokenHead.{TokenHead}
-use Rattle.wire_base.specs.declared.token.TokenHead.TheVariants as token
+use Rattle.wire_base.specs.Head.{head_of}
 use Rattle.wire_base.specs.declared.token.HeadStep.{HeadStep}
 use Rattle.wire_base.specs.declared.token.HeadStep.TheVariants as step
 use Rattle.wire_base.specs.declared.reason.Reason.{Reason}

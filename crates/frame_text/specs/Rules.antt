@@ -1,5 +1,5 @@
 -- The rules that a frame's tokens keep, and the first token that breaks one. From the multiplexing stream's protocol.
-use Rattle.std.specs.Prelude.{ℕ, ◌+◌, List, [], ◌∷◌, length, take, drop, pos, negsuc, Bool, true, false, ◌&&◌, ◌==◌, nat_lt, not, if◌then◌else◌, Option, Some, None}
+use Rattle.std.specs.Prelude.{ℕ, ◌+◌, List, [], length, take, pos, negsuc, Bool, true, false, ◌&&◌, ◌==◌, nat_lt, not, if◌then◌else◌, Option, Some, None}
 use Rattle.std.specs.Int.{w8, w16, w32}
 use Rattle.std.specs.Str.{is_utf8}
 use Rattle.wire_base.specs.declared.limits.TheConstants.{COUNT_LIMIT, MAX_PAYLOAD}

@@ -4,9 +4,7 @@ use Rattle.std.specs.Int.{w16, w32, from_be_bytes}
 use Rattle.std.specs.Str.{is_utf8}
 use Rattle.wire_base.specs.declared.limits.TheConstants.{COUNT_LIMIT, MAX_PAYLOAD}
 pub use Rattle.wire_base.specs.Head.{IsHead}
-use Rattle.wire_base.specs.declared.token.TokenHead.{TokenHead}
 use Rattle.wire_base.specs.declared.token.TokenHead.TheVariants as token
-use Rattle.wire_base.specs.declared.token.HeadStep.TheVariants as step
 use Rattle.wire_base.specs.declared.reason.Reason.{Reason}
 use Rattle.wire_base.specs.declared.frame.Version.{Version}
 use Rattle.wire_base.specs.declared.frame.Version.TheVariants as version
@@ -19,8 +17,7 @@ use Rattle.wire_base.specs.declared.frame.Payload.TheVariants as payload
 use Rattle.wire_base.specs.declared.frame.Frame.{Frame}
 use Rattle.frame_text.specs.Codec.{elements}
 use Rattle.frame_text.specs.Frames.{code_number}
-use Rattle.frame_text.specs.Front.{Broken}
-use Rattle.frame_text.specs.Reading.{front}
+use Rattle.frame_text.specs.Rules.{first_refusal}
 
 -- each is a byte
 abbrev pub AreBytes : List ℕ → Type 0
@@ -168,5 +165,5 @@ pub record IsBrokenStream (v : Version) (at : ℕ) (stream : List ℕ) (place : 
   pub rest : List ℕ
   pub offset : ℕ
   pub are_frames : AreFrames v at stream frames rest
-  pub broken : front v rest ≡ Broken offset reason
+  pub broken : first_refusal v rest ≡ Some (offset, reason)
   pub place_is : place + length rest ≡ at + length stream + offset

@@ -6,7 +6,6 @@ pub mod Again
 pub mod Follows
 pub mod Settled
 pub mod Fronts
-pub mod Keeps
 pub mod Lists
 pub mod Spelled
 pub mod Apart

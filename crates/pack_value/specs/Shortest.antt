@@ -84,7 +84,3 @@ entry_fits p = nat_le (length p.0) max_len && lengths_fit p.1
 
 abbrev pub IsEntry : List ℕ × Tree → Type 0
 IsEntry p = IsText p.0 × IsValue p.1
-
--- What stood in the buffer stands at its front.
-abbrev pub KeepsFront : List ℕ → List ℕ → Type 0
-KeepsFront old new = take (length old) new ≡ old

@@ -1,8 +1,9 @@
 ghost use Rattle.std.specs.Prelude.{◌≡◌, ◌≤◌, ◌<◌, ◌++◌, ◌↔◌, length, IsTrue, OnOk, OnErr, IsErrOf, true, false};
 ghost use Rattle.wire_base.specs.Tree.{trees_of, pairs_of};
+ghost use Rattle.wire_base.specs.Appends.{KeepsFront};
 ghost use Rattle.wire_base.specs.Shortest.{bin_head};
 ghost use Rattle.pack_value.specs.Spelling.{IsSpelling, max_len, max_nesting, nesting, nestings, pair_nestings};
-ghost use Rattle.pack_value.specs.Shortest.{KeepsFront, IsText, IsEntry, entry_fits, shortest_entry, IsValue, AreValues, ArePairs, lengths_fit, item_lengths_fit, pair_lengths_fit, shortest, shortest_items, shortest_pairs, text};
+ghost use Rattle.pack_value.specs.Shortest.{IsText, IsEntry, entry_fits, shortest_entry, IsValue, AreValues, ArePairs, lengths_fit, item_lengths_fit, pair_lengths_fit, shortest, shortest_items, shortest_pairs, text};
 
 use crate::encode_fault::EncodeFault;
 use crate::limits::{MAX_LEN, MAX_NESTING};
@@ -115,7 +116,7 @@ fn pair_fits(pair: &(Text, Datum)) -> bool
     text_fits(&pair.0) && fits(&pair.1)
 }
 
-#[tactic(auto, using(crate::proofs::Keeps::keeps))]
+#[tactic(auto, using(wire_base::proofs::Keeps::keeps))]
 fn put_text(s: &[u8], out: &mut Vec<u8>) -> Result<(), OutOfMemory>
     requires { length s.now ≤ max_len }
     ensures ok { OnOk result (out.new.items ≡ out.old.items ++ text s.now) }
@@ -126,7 +127,7 @@ fn put_text(s: &[u8], out: &mut Vec<u8>) -> Result<(), OutOfMemory>
     Ok(())
 }
 
-#[tactic(auto, using(crate::proofs::Keeps::keeps))]
+#[tactic(auto, using(wire_base::proofs::Keeps::keeps))]
 fn put_bytes(s: &[u8], out: &mut Vec<u8>) -> Result<(), OutOfMemory>
     requires { length s.now ≤ max_len }
     ensures ok { OnOk result (out.new.items ≡ out.old.items ++ (bin_head (length s.now) ++ s.now)) }

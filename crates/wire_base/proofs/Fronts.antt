@@ -1,6 +1,5 @@
 -- What stands at the front of bytes stands within them, and stays so whatever follows.
 use Rattle.std.proofs.Common.{◌≡◌, ℕ, ◌+◌, ◌-◌, ◌≤◌, ◌<◌, List, ◌++◌, length, Ok, Err, refl, ap, arith, length-append}
-use Rattle.wire_base.specs.declared.reason.Reason.{Reason}
 use Rattle.wire_base.specs.declared.reading.Fault.TheVariants.{Ends, Breaks}
 use Rattle.wire_base.specs.Tokens.{Reading}
 use Rattle.wire_base.specs.Front.{Front, Whole, Short, Broken, front_of}

@@ -11,3 +11,4 @@ pub mod TokenSteady
 pub mod TokenAgain
 pub mod Fronts
 pub mod Refusals
+pub mod Keeps

@@ -3,7 +3,7 @@ use Rattle.std.proofs.Common.{◌≡◌, ℕ, ◌+◌, ◌-◌, ◌≤◌, Bool,
 use Rattle.std.specs.Prelude.{ℤ, pos, negsuc, is_some}
 use Rattle.std.specs.Int.{Width, byte_len, from_be_bytes, cast_signed}
 use Rattle.std.proofs.lemmas.Bool.{ltb-false}
-use Rattle.wire_base.specs.Head.{Kind, whole_head, unsigned, signed, str, bin, array, map, refused, kind_of, head_of, read_kind}
+use Rattle.wire_base.specs.Head.{Kind, whole_head, unsigned, signed, str, bin, array, map, refused, kind_of, read_kind}
 use Rattle.wire_base.specs.declared.token.TokenHead.{TokenHead}
 use Rattle.wire_base.specs.declared.token.TokenHead.TheVariants as token
 use Rattle.wire_base.specs.declared.token.HeadStep.{HeadStep}
@@ -11,8 +11,8 @@ use Rattle.wire_base.specs.declared.token.HeadStep.TheVariants as step
 use Rattle.wire_base.specs.declared.reason.Reason.{Reason}
 use Rattle.wire_base.specs.declared.reading.Fault.{Fault}
 use Rattle.wire_base.specs.declared.reading.Fault.TheVariants.{Ends, Breaks}
-use Rattle.wire_base.specs.Tokens.{Reading, Reader, follow, done, Sort, a_number, unfinished, allowed, headed, head_at, token_at, inside, inner_at, field_at}
-use Rattle.wire_base.specs.Front.{Whole, Short, Broken, front_of}
+use Rattle.wire_base.specs.Tokens.{Reading, Reader, follow, done, Sort, a_number, allowed, headed, head_at, token_at, inside, inner_at, field_at}
+use Rattle.wire_base.specs.Front.{Broken, front_of}
 use Rattle.wire_base.specs.Rules.{Due, Judged, passes, cut, breaks, judged_head, by_first, judged, closed, Refusal, further, behind, natural, field_judged}
 use Rattle.wire_base.proofs.HeadLemmas.{head_within, numbered_not_refused}
 use Rattle.wire_base.proofs.TokenSorts.{IsSort}

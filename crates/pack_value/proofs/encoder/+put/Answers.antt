@@ -2,7 +2,7 @@ use Rattle.std.proofs.lemmas.Result.{err_from_is_err_and}
 use Rattle.wire_base.specs.Tree.{trees_of, pairs_of, weight, pair_size}
 use Rattle.std.proofs.Common.{◌≡◌, ◌<◌, ap, arith, take, append_assoc}
 use Rattle.pack_value.specs.Shortest.{shortest_items, shortest_pairs}
-use Rattle.pack_value.proofs.Keeps.{keeps_through}
+use Rattle.wire_base.proofs.Keeps.{keeps_through}
 use Rattle.pack_value.proofs.Lists.{shortest_items-more, shortest_pairs-more, pair_fits_here, pair_weight_here}
 use Rattle.pack_value.proofs.encoder.+put.Goals as goal
 

@@ -2,7 +2,7 @@
 use Rattle.std.proofs.Common.{◌≡◌, ℕ, ◌≤◌, List, ◌++◌, length, take, sym, ap, ◌∙◌, append_assoc, length-append, arith}
 use Rattle.std.proofs.Math.Seq.{take-append_seam, take-length}
 use Rattle.std.proofs.lemmas.List.{take-take}
-use Rattle.pack_value.specs.Shortest.{KeepsFront}
+use Rattle.wire_base.specs.Appends.{KeepsFront}
 
 pub keeps_same : (old new : List ℕ) → new ≡ old → KeepsFront old new
 keeps_same old new e = rw e (take-length old)
@@ -25,3 +25,5 @@ pub front_kept_twice : (old more others : List ℕ) → take (length old) ((old 
 front_kept_twice old more others = rw (append_assoc old more others) (take-append_seam old (more ++ others))
 
 pub ruleset keeps = (front_kept, all_kept, front_kept_twice)
+
+pub ruleset keeping = (keeps_same, keeps_through)
