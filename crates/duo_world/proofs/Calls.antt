@@ -1,7 +1,7 @@
 -- A call of an end.
-use Rattle.std.specs.Prelude.{if◌then◌else◌, nat_lt, nat_le, not, true, false, IsUtf8, MatchResult, IsOkAnd}
+use Rattle.std.specs.Prelude.{nat_lt, not, true, IsUtf8, MatchResult, IsOkAnd}
 use Rattle.std.proofs.Common.{◌≡◌, ℕ, ◌+◌, ◌<◌, ◌≤◌, List, ◌∷◌, length, refl, sym, ◌∙◌, ap, subst, arith, Option, Some, None, Result, Ok, Err}
-use Rattle.std.proofs.lemmas.Bool.{and_parts, or_parts, lt-ltb, ltb-false, leb-false, not-false}
+use Rattle.std.proofs.lemmas.Bool.{and_parts, lt-ltb, ltb-false}
 use Rattle.std.proofs.lemmas.List.{append-nil}
 use Rattle.std.proofs.lemmas.Str.{is_utf8-from_IsUtf8}
 use Rattle.wire_base.specs.declared.frame.Version.{Version}
@@ -9,7 +9,6 @@ use Rattle.wire_base.specs.declared.frame.Version.TheVariants as version
 use Rattle.frame_text.specs.Frames.{fits_id}
 use Rattle.wire_base.specs.declared.refusal.Refusal.{Refusal}
 use Rattle.wire_base.specs.declared.refusal.Refusal.TheVariants as refusal
-use Rattle.wire_base.specs.declared.state.Cause.{Cause}
 use Rattle.wire_base.specs.declared.fault.CallFault.{CallFault}
 use Rattle.wire_base.specs.declared.fault.CallFault.TheVariants as fault
 use Rattle.mux_items.specs.declared.channel.ChannelKey.{ChannelKey}
@@ -19,14 +18,13 @@ use Rattle.mux_items.specs.declared.call.Call.{Call}
 use Rattle.mux_items.specs.declared.call.Call.TheVariants as call
 use Rattle.mux_items.specs.Bodies.{has_parity}
 use Rattle.mux_items.specs.Items.{Item, ended, greeting, party_of}
-use Rattle.mux_items.specs.Limits.{longest_name, greatest_window, most_channels, most_windows, most_offers}
-use Rattle.mux_items.specs.Kept.{is_known, is_kept, own_id, own_offers, next_key, kept_keys, own_windows}
-use Rattle.mux_items.specs.Lists.{termination_emitted, is_accepted}
+use Rattle.mux_items.specs.Limits.{longest_name, most_offers}
+use Rattle.mux_items.specs.Kept.{is_known, is_kept, own_id, own_offers, next_key}
 use Rattle.mux_items.specs.Due.{got}
-use Rattle.mux_items.specs.Refusals.{is_ready, unless_ended, is_bad_window, or_else, open_refusal, writing_refusal, offer_refusal, accept_refusal}
+use Rattle.mux_items.specs.Refusals.{is_ready, offer_refusal}
 use Rattle.mux_items.specs.Calls.{call_refusal, item_of_call, unless_refused, called}
 use Rattle.mux_items.specs.Parties.{party_by}
-use Rattle.mux_items.proofs.Permits.{if_none}
+use Rattle.mux_items.proofs.Permits.{if_none, unless_none, offer_permits, accept_permits, write_permits, read_permits, complete_permits, terminate_permits}
 use Rattle.mux_run.specs.declared.answers.Reply.{Reply}
 use Rattle.mux_run.specs.declared.answers.Reply.TheVariants as reply
 use Rattle.mux_run.specs.Run.{RunSide, SideTerms}
@@ -43,66 +41,19 @@ use Rattle.duo_world.proofs.Sides.{own_parity}
 use Rattle.duo_world.proofs.Frames.{ready_party, known_in_range}
 use Rattle.duo_world.proofs.Settling.{stands_item}
 
--- what an accepted call shows
-
-not_ended : (o : Option Cause) (r : Option Refusal) → unless_ended o r ≡ None → r ≡ None
-not_ended None r e = e
-not_ended (Some c) r e = cc
-
-both_none : (a b : Option Refusal) → or_else a b ≡ None → (a ≡ None) × (b ≡ None)
-both_none None b e = (refl, e)
-both_none (Some r) b e = cc
-
 -- a channel that a call finds kept is known
-kept_known : (v : Version) (c : ChannelKey) (items : List Item) (otherwise : Option Refusal) → (if not (is_kept v c items) then Some refusal.NoChannel else otherwise) ≡ None → is_known c items ≡ true
-kept_known v c items otherwise e = (and_parts (is_known c items) _ (not-false (is_kept v c items) (if_none (not (is_kept v c items)) refusal.NoChannel otherwise e).0)).0
+kept_in_range : (w : SideTerms) (c : ChannelKey) (items : List Item) → AreInRange w items → is_kept w.version c items ≡ true → IsKeyInRange w c
+kept_in_range w c items s e = known_in_range w c items s (and_parts (is_known c items) _ e).0
 
-open_known : (v : Version) (c : ChannelKey) (items : List Item) → open_refusal v c items ≡ None → is_known c items ≡ true
-open_known v c items e = kept_known v c items _ e
-
-writing_known : (v : Version) (c : ChannelKey) (items : List Item) → writing_refusal v c items ≡ None → is_known c items ≡ true
-writing_known v c items e = open_known v c items (both_none (open_refusal v c items) _ e).0
-
-good_window : (size : ℕ) → is_bad_window size ≡ false → IsNumberInRange size
-good_window size e = omega (arith, ltb-false greatest_window size (or_parts (nat_lt size 1) (nat_lt greatest_window size) e).1)
-
-record IsAccept (c : ChannelKey) (size : ℕ) (items : List Item) : Type 0 where
-  known : is_known c items ≡ true
-  number : IsNumberInRange size
-
-accept_shows : (v : Version) (c : ChannelKey) (size : ℕ) (items : List Item) → accept_refusal v c size items ≡ None → IsAccept c size items
-accept_shows v c size items e =
-    let kept = not_ended (ended items) _ e in
-    let a = if_none (not (is_kept v c items)) refusal.NoChannel _ kept in
-    let b = if_none c.own refusal.WrongSide _ a.1 in
-    let d = if_none (termination_emitted v c items) refusal.NotOpen _ b.1 in
-    let f = if_none (is_accepted v c items) refusal.AlreadyAccepted _ d.1 in
-    record { known = kept_known v c items _ kept; number = good_window size (if_none (is_bad_window size) refusal.BadWindow _ f.1).0 }
-
-record IsOffer (v : Version) (name : List ℕ) (size : ℕ) (items : List Item) : Type 0 where
-  ready : is_ready v items ≡ true
-  short : length name ≤ longest_name
-  number : IsNumberInRange size
-  few : own_offers items < most_offers
-
-offer_shows : (v : Version) (name : List ℕ) (size : ℕ) (items : List Item) → offer_refusal v name size items ≡ None → IsOffer v name size items
-offer_shows v name size items e =
-    let a = if_none (not (is_ready v items)) refusal.NotReady _ (not_ended (ended items) _ e) in
-    let b = if_none (nat_lt longest_name (length name)) refusal.NameTooLong _ a.1 in
-    let c = if_none (is_bad_window size) refusal.BadWindow _ b.1 in
-    let d = if_none (nat_le most_channels (length (kept_keys v items))) refusal.TooManyChannels _ c.1 in
-    let f = if_none (nat_lt most_windows (own_windows v items + size)) refusal.WindowsSpent _ d.1 in
-    let g = if_none (nat_le most_offers (own_offers items)) refusal.TooManyOffers _ f.1 in
-    record {
-      ready = not-false (is_ready v items) a.0;
-      short = ltb-false longest_name (length name) b.0;
-      number = good_window size c.0;
-      few = leb-false most_offers (own_offers items) g.0;
-    }
+-- an accepted offer has a short name
+name_short : (v : Version) (name : List ℕ) (size : ℕ) (items : List Item) → offer_refusal v name size items ≡ None → length name ≤ longest_name
+name_short v name size items e =
+    let ready = if_none (not (is_ready v items)) refusal.NotReady _ (unless_none (ended items) _ e).1 in
+    ltb-false longest_name (length name) (if_none (nat_lt longest_name (length name)) refusal.NameTooLong _ ready.1).0
 
 -- the next own offer draws an id of the own party, below 2^32
 
-id_small : (party : Party) (k : ℕ) → k < most_offers → (0 < own_id party (k + 1)) × (own_id party (k + 1) < 0x100000000)
+id_small : (party : Party) (k : ℕ) → k + 1 ≤ most_offers → (0 < own_id party (k + 1)) × (own_id party (k + 1) < 0x100000000)
 id_small Odd k h = (omega arith, omega arith)
 id_small Even k h = (omega arith, omega arith)
 id_small Neither k h = (omega arith, omega arith)
@@ -112,10 +63,10 @@ id_fits version.One id a b = rw (lt-ltb 0 id a, lt-ltb id 0x100000000 b) refl
 id_fits version.Two id a b = rw (lt-ltb 0 id a, lt-ltb id 0x8000000000000000 (omega arith)) refl
 id_fits version.Three id a b = rw (lt-ltb 0 id a, lt-ltb id 0x8000000000000000 (omega arith)) refl
 
-next_in_range : (w : SideTerms) (items : List Item) → AreInRange w items → is_ready w.version items ≡ true → own_offers items < most_offers → IsKeyInRange w (next_key items)
-next_in_range w items s ready few =
+next_in_range : (w : SideTerms) (items : List Item) → AreInRange w items → is_ready w.version items ≡ true → own_offers items + 1 ≤ most_offers → IsKeyInRange w (next_key items)
+next_in_range w items s ready more =
     let k = own_offers items in
-    let small = id_small (party_of items) k few in
+    let small = id_small (party_of items) k more in
     record {
       id = id_fits w.version (own_id (party_of items) (k + 1)) small.0 small.1;
       source = λ two.
@@ -125,8 +76,8 @@ next_in_range w items s ready few =
 
 -- what the types of a call's parts say
 abbrev pub HasParts : Call → Type 0
-HasParts (call.Offer name size) = IsUtf8 name
-HasParts (call.Accept c size) = Unit {0}
+HasParts (call.Offer name size) = IsUtf8 name × IsNumberInRange size
+HasParts (call.Accept c size) = IsNumberInRange size
 HasParts (call.Write c bytes) = Unit {0}
 HasParts (call.Read c max) = IsNumberInRange max
 HasParts (call.Complete c) = Unit {0}
@@ -134,16 +85,14 @@ HasParts (call.Terminate c) = Unit {0}
 
 -- the frames of an accepted call can be written
 call_in_range : (w : SideTerms) (c : Call) (items : List Item) → HasParts c → AreInRange w items → call_refusal w.version c items ≡ None → IsInRange w (item_of_call c items) items
-call_in_range w (call.Offer name size) items text s e =
-    let o = offer_shows w.version name size items e in
-    (next_in_range w items s o.ready o.few, record { utf8 = is_utf8-from_IsUtf8 name text; short = o.short }, o.number)
-call_in_range w (call.Accept c size) items parts s e =
-    let a = accept_shows w.version c size items e in
-    (known_in_range w c items s a.known, a.number)
-call_in_range w (call.Write c bytes) items parts s e = known_in_range w c items s (writing_known w.version c items (both_none _ _ (not_ended (ended items) _ e)).0)
-call_in_range w (call.Read c max) items small s e = (known_in_range w c items s (kept_known w.version c items _ e), omega arith)
-call_in_range w (call.Complete c) items parts s e = known_in_range w c items s (writing_known w.version c items (not_ended (ended items) _ e))
-call_in_range w (call.Terminate c) items parts s e = known_in_range w c items s (open_known w.version c items (not_ended (ended items) _ e))
+call_in_range w (call.Offer name size) items parts s e =
+    let o = offer_permits w.version name size items e in
+    (next_in_range w items s o.ready o.more, record { utf8 = is_utf8-from_IsUtf8 name parts.0; short = name_short w.version name size items e }, parts.1)
+call_in_range w (call.Accept c size) items small s e = (kept_in_range w c items s (accept_permits w.version c size items e).kept, small)
+call_in_range w (call.Write c bytes) items parts s e = kept_in_range w c items s (write_permits w.version c bytes items e).call.kept
+call_in_range w (call.Read c max) items small s e = (kept_in_range w c items s (read_permits w.version c items e), omega arith)
+call_in_range w (call.Complete c) items parts s e = kept_in_range w c items s (complete_permits w.version c items e).call.kept
+call_in_range w (call.Terminate c) items parts s e = kept_in_range w c items s (terminate_permits w.version c items e).kept
 
 -- what a call answered
 

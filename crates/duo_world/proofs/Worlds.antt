@@ -17,6 +17,7 @@ use Rattle.mux_run.proofs.Growing.{side_after_grown, out-grows}
 use Rattle.mux_run.proofs.Links.{run_joined, turned_joined, run_from-push}
 use Rattle.mux_run.proofs.Fed.{run_fed, turned_fed}
 use Rattle.mux_run.proofs.Safety.{run_safe}
+use Rattle.mux_credit.proofs.Runs.{run_keeps_credit}
 use Rattle.mux_end.specs.Stands.{EndValue}
 use Rattle.duo_world.specs.Holding.{StandsForSide, StandForWorld, HaveNonces, DuoState, StandsForRun, IsWorking}
 use Rattle.duo_world.specs.Stepping.{IsBetweenSteps, StepsAt, StepsIn, newly_out, Emits, EmitsOn, IsStepped, Steps}
@@ -113,6 +114,7 @@ stepped d d' s reply h terms steps works made =
         works = works;
         stands = stands;
         safe = run_safe d'.terms d'.steps;
+        credit = run_keeps_credit d'.terms d'.steps;
         emits = subst (λ w'. EmitsOn (side_of s) d.terms w w' d.a d'.a d.b d'.b) (sym now) (emits_on d.terms s (side_of s) d.a d'.a d.b d'.b w h.stands made.1);
       },
       record { nonces = subst (λ t. HaveNonces (terms_at_a t)) (sym terms) h.nonces; stands = stands },

@@ -15,6 +15,7 @@ use Rattle.mux_run.specs.Answers.{reply_to, answer_at, answer}
 use Rattle.mux_run.specs.Run.{RunSide, World, Terms, SideTerms, terms_at_a, terms_at_b, out, side_after, side_of, happens, run}
 use Rattle.mux_run.specs.Linked.{Joined}
 use Rattle.mux_run.specs.Safe.{IsSafeRun}
+use Rattle.mux_credit.specs.Runs.{KeepsCreditRun}
 use Rattle.mux_run.specs.Fed.{AreFed}
 use Rattle.mux_end.specs.Stands.{EndValue}
 use Rattle.duo_world.specs.Holding.{StandsForSide, StandForSides, StandForWorld, HaveNonces, DuoState, StandsForRun}
@@ -59,7 +60,7 @@ abbrev pub EmitsOn : Side → Terms → (w w' : World) → (a a' b b' : EndValue
 EmitsOn A terms w w' a a' b b' = Emits (terms_at_a terms) w.a w'.a a a' b b'
 EmitsOn B terms w w' a a' b b' = Emits (terms_at_b terms) w.b w'.b b b' a a'
 
--- a step was made: it answers as the run says, is stored, and the ends stand for the run with it, which is safe at every moment
+-- a step was made: it answers as the run says, is stored, and the ends stand for the run with it, which is safe and keeps its credit at every moment
 pub record IsStepped (old new : DuoState) (s : Step) (reply : DuoAnswer) : Type 0 where
   pub reply_is : reply ≡ answer old.terms s (run old.terms old.steps)
   pub steps_are : new.steps ≡ old.steps ++ s ∷ []
@@ -67,6 +68,7 @@ pub record IsStepped (old new : DuoState) (s : Step) (reply : DuoAnswer) : Type 
   pub works : new.failed ≡ false
   pub stands : StandsForRun new
   pub safe : IsSafeRun new.terms new.steps
+  pub credit : KeepsCreditRun new.terms new.steps
   pub emits : EmitsOn (side_of s) old.terms (run old.terms old.steps) (run new.terms new.steps) old.a new.a old.b new.b
 
 -- a step is made; after want of memory nothing is promised

@@ -2,6 +2,7 @@
 
 ghost use Rattle.duo_world.specs.Holding.{DuoHolds, StandsForRun, end_of, flight_to, output_to};
 ghost use Rattle.duo_world.specs.Stepping.{IsStepped, Steps};
+ghost use Rattle.mux_credit.specs.Runs.{KeepsCreditRun};
 ghost use Rattle.mux_run.specs.Run.{run, terms_of};
 ghost use Rattle.mux_run.specs.Safe.{IsSafeRun};
 ghost use Rattle.std.specs.Prelude.{◌≡◌, [], IfOk, OnErr, false, true};
@@ -42,6 +43,7 @@ impl Duo {
         ensures fresh { IfOk result (λ d. (d.steps ≡ []) × (d.failed ≡ false) × (d.terms ≡ terms_of version nonces)) }
         ensures stands { IfOk result StandsForRun }
         ensures safe { IfOk result (λ d. IsSafeRun d.terms d.steps) }
+        ensures credit { IfOk result (λ d. KeepsCreditRun d.terms d.steps) }
     {
         let [nonce_a, nonce_b] = nonces;
         let a = MuxEnd::start(alloc, version, nonce_a)?;
@@ -94,6 +96,7 @@ impl Duo {
         ensures stored { IfOk result (λ d. (d.steps ≡ steps) × (d.failed ≡ false) × (d.terms ≡ terms_of version nonces)) }
         ensures stands { IfOk result StandsForRun }
         ensures safe { IfOk result (λ d. IsSafeRun d.terms d.steps) }
+        ensures credit { IfOk result (λ d. KeepsCreditRun d.terms d.steps) }
     {
         let mut duo = Duo::start(alloc, version, nonces)?;
         for step in steps.into_vec() {

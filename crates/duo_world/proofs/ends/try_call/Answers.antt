@@ -11,12 +11,12 @@ use Rattle.duo_world.proofs.ends.try_call.Goals as goal
 pub returns-in-Offer : goal.returns-in-Offer
 returns-in-Offer c = λ w x y h.
     call_mapped w _ (variant.Offer c.in-Offer.name c.in-Offer.window) c.args.own.now c.offer.new.self x y (λ key. key ≡ next_key x.items) reply.Made c.offer.result c.map.result c.in-Offer.is
-    c.as_str-text.ensures.utf8 h (c.offer.ensures.answers x.items (place_of w x y) (rest_of w x y) h.stands) (λ key is. ap reply.Made is) c.map.ensures.cases
+    (c.as_str-text.ensures.utf8, omega arith) h (c.offer.ensures.answers x.items (place_of w x y) (rest_of w x y) h.stands) (λ key is. ap reply.Made is) c.map.ensures.cases
 
 pub returns-in-Accept : goal.returns-in-Accept
 returns-in-Accept c = λ w x y h.
     call_mapped w _ (variant.Accept c.in-Accept.key c.in-Accept.window) c.args.own.now c.accept.new.self x y (λ z. Unit {0}) (λ z. reply.Done) c.accept.result c.done.result c.in-Accept.is
-    tt h (c.accept.ensures.answers x.items (place_of w x y) (rest_of w x y) h.stands) (λ z is. refl) c.done.ensures
+    (omega arith) h (c.accept.ensures.answers x.items (place_of w x y) (rest_of w x y) h.stands) (λ z is. refl) c.done.ensures
 
 pub returns-in-Write : goal.returns-in-Write
 returns-in-Write c = λ w x y h.
