@@ -47,7 +47,7 @@ running_none items e = by (ended items) e
     by (Some c) e = cc
 
 -- what comes next: nothing is whole, the peer's handshake, a frame, or what is refused
-pub data Comes (w : SideTerms) (d : ℕ) (items : List Item) (y : RunSide) : Arrival → Type 0 where
+data Comes (w : SideTerms) (d : ℕ) (items : List Item) (y : RunSide) : Arrival → Type 0 where
   waits : (settled w d items y).items ≡ items → Comes w d items y Waits
   greets : is_ready w.version items ≡ false → greeting_size w ≤ d → bytes_eq w.own w.peer ≡ false → Comes w d items y (Greets (party_by w.own w.peer) (greeting_size w))
   applies : is_ready w.version items ≡ true → (f : ChannelFrame) (fs : List ChannelFrame) → next_frames w d (length (got items)) y ≡ f ∷ fs → frame_refusal w.version (flip f).key f.body items ≡ None

@@ -46,7 +46,7 @@ place_within v n k fs h =
     let texts : frame_texts v whole ≡ front ++ back = ap (frame_texts v) (sym (take-append-drop k whole)) ∙ frame_texts-append v (take k whole) (drop k whole) in
     omega (arith, ap (λ gs. length (frame_texts v gs)) (take_whole v n k fs h), ap length texts, length-append front back, whole_fits v n fs)
 
-pub place_below : (w : SideTerms) (d : ℕ) (items : List Item) (y : RunSide) → LieWithin w d items y → place_of w (side_with items d) y ≤ d
+place_below : (w : SideTerms) (d : ℕ) (items : List Item) (y : RunSide) → LieWithin w d items y → place_of w (side_with items d) y ≤ d
 place_below w d items y l = by (is_ready w.version items) refl
   where
     by : (b : Bool) → is_ready w.version items ≡ b → (if b then place_after w (length (got items)) y else 0) ≤ d
@@ -66,7 +66,7 @@ in_flight_is w peer x y h =
 
 -- the end y stays, while the items of x grow
 
-pub peer_grows : (w : SideTerms) (end : EndValue) (y x : RunSide) (items : List Item) (more : List ChannelFrame) → StandsForSide w end y x → sent w.version items ≡ sent w.version x.items ++ more
+peer_grows : (w : SideTerms) (end : EndValue) (y x : RunSide) (items : List Item) (more : List ChannelFrame) → StandsForSide w end y x → sent w.version items ≡ sent w.version x.items ++ more
     → length (got y.items) ≤ length (sent w.version x.items) → y.delivered ≤ length (out w.version w.peer x.items) → StandsForSide w end y (side_with items x.delivered)
 peer_grows w end y x items more h grown applied bound =
     let v = w.version in
@@ -140,7 +140,7 @@ stands_fed w m own fed x y piece f bound h is k = record {
 
 -- what feeding answered, at an end that runs
 
-pub data Fed (own fed : EndValue) (items : List Item) (at : ℕ) (rest piece : List ℕ) (s : EndState) : Bool → Type 0 where
+data Fed (own fed : EndValue) (items : List Item) (at : ℕ) (rest piece : List ℕ) (s : EndState) : Bool → Type 0 where
   kept : s ≡ state.Running → KeepsPiece own fed items at rest piece → Fed own fed items at rest piece s false
   spent : s ≡ state.Ended cause.Spent → Adds own fed items at rest (End cause.Spent) → Fed own fed items at rest piece s true
 
@@ -148,7 +148,7 @@ fed_by : (own fed : EndValue) (items : List Item) (at : ℕ) (rest piece : List 
 fed_by own fed items at rest piece s false a = kept a.0 a.1
 fed_by own fed items at rest piece s true a = spent a.0 a.1
 
-pub feeding : (own fed : EndValue) (items : List Item) (at : ℕ) (rest piece : List ℕ) (s : EndState) → is_running items ≡ true
+feeding : (own fed : EndValue) (items : List Item) (at : ℕ) (rest piece : List ℕ) (s : EndState) → is_running items ≡ true
     → FeedAnswers own fed items at rest piece (ended items) (replies.is_spent at rest piece) (Ok s) → Fed own fed items at rest piece s (replies.is_spent at rest piece)
 feeding own fed items at rest piece s runs a =
     fed_by own fed items at rest piece s (replies.is_spent at rest piece) (subst (λ o. FeedAnswers own fed items at rest piece o (replies.is_spent at rest piece) (Ok s)) (running_none items runs) a)

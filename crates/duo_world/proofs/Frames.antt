@@ -34,7 +34,7 @@ abbrev pub AreWritable : SideTerms → List ChannelFrame → Type 0
 AreWritable w [] = Unit {0}
 AreWritable w (f ∷ fs) = IsWritable w f × AreWritable w fs
 
-pub writable-append : (w : SideTerms) (fs gs : List ChannelFrame) → AreWritable w fs → AreWritable w gs → AreWritable w (fs ++ gs)
+writable-append : (w : SideTerms) (fs gs : List ChannelFrame) → AreWritable w fs → AreWritable w gs → AreWritable w (fs ++ gs)
 writable-append w [] gs a b = b
 writable-append w (f ∷ fs) gs a b = (a.0, writable-append w fs gs a.1 b)
 

@@ -42,14 +42,14 @@ pub place_unready : (w : SideTerms) (x y : RunSide) → is_ready w.version x.ite
 place_unready w x y e = ap (λ b. if b then place_after w (length (got x.items)) y else 0) e
 
 -- what settles after the handshake
-abbrev pub settled_from : SideTerms → (d : ℕ) → List Item → RunSide → List Item
+abbrev settled_from : SideTerms → (d : ℕ) → List Item → RunSide → List Item
 settled_from w d after y = if is_ready w.version after then apply_frames w.version (place_after w (length (got after)) y) (next_frames w d (length (got after)) y) after else after
 
 skipped : {A : Type 0} (r b n : Bool) (x y : A) → b ≡ true → (if r && not b && n then x else y) ≡ y
 skipped true b n x y e = ap (λ b. if not b && n then x else y) e
 skipped false b n x y e = refl
 
-pub greeted_ready : (w : SideTerms) (d : ℕ) (items : List Item) → is_ready w.version items ≡ true → greeted w d items ≡ items
+greeted_ready : (w : SideTerms) (d : ℕ) (items : List Item) → is_ready w.version items ≡ true → greeted w d items ≡ items
 greeted_ready w d items e = skipped (is_running items) (is_ready w.version items) (nat_le (greeting_size w) d) (greet w ∷ items) items e
 
 greeted_stopped : (w : SideTerms) (d : ℕ) (items : List Item) → is_running items ≡ false → greeted w d items ≡ items
@@ -70,7 +70,7 @@ greeted_short w d items runs unready h = greeted_by w d items runs unready ∙ a
 unready_stays : (w : SideTerms) (d : ℕ) (items : List Item) (y : RunSide) → is_ready w.version items ≡ false → settled_from w d items y ≡ items
 unready_stays w d items y e = ap (λ b. if b then apply_frames w.version (place_after w (length (got items)) y) (next_frames w d (length (got items)) y) items else items) e
 
-pub settled_ready : (w : SideTerms) (d : ℕ) (items : List Item) (y : RunSide) → is_ready w.version items ≡ true
+settled_ready : (w : SideTerms) (d : ℕ) (items : List Item) (y : RunSide) → is_ready w.version items ≡ true
     → (settled w d items y).items ≡ apply_frames w.version (place_after w (length (got items)) y) (next_frames w d (length (got items)) y) items
 settled_ready w d items y e =
     ap (λ after. settled_from w d after y) (greeted_ready w d items e)
@@ -90,7 +90,7 @@ settled_spoilt w d items y runs unready h same =
 
 -- one that greets is then ready
 
-pub hello_ready : (w : SideTerms) (items : List Item) → is_ready w.version (Hello (party_by w.own w.peer) ∷ items) ≡ true
+hello_ready : (w : SideTerms) (items : List Item) → is_ready w.version (Hello (party_by w.own w.peer) ∷ items) ≡ true
 hello_ready w items = or_right (is_three w.version) true refl
 
 pub settled_greeted : (w : SideTerms) (d : ℕ) (items : List Item) (y : RunSide) → is_running items ≡ true → is_ready w.version items ≡ false → greeting_size w ≤ d → bytes_eq w.own w.peer ≡ false
@@ -139,7 +139,7 @@ behind w d items y f fs s e =
     let tail = drop (length whole) frames in
     (fs ++ tail, ap (drop k) (sym (whole_front w.version (d - greeting_size w) frames)) ∙ (drop-append-le k whole tail s.lie.within ∙ ap (λ gs. gs ++ tail) e))
 
-pub next_writable : (w : SideTerms) (d : ℕ) (items : List Item) (y : RunSide) (f : ChannelFrame) (fs : List ChannelFrame) → MayApply w d items y → next_frames w d (length (got items)) y ≡ f ∷ fs → IsWritable (turned w) f
+next_writable : (w : SideTerms) (d : ℕ) (items : List Item) (y : RunSide) (f : ChannelFrame) (fs : List ChannelFrame) → MayApply w d items y → next_frames w d (length (got items)) y ≡ f ∷ fs → IsWritable (turned w) f
 next_writable w d items y f fs s e =
     let frames = sent w.version y.items in
     let k = length (got items) in

@@ -12,7 +12,7 @@ use Rattle.mux_items.specs.Parties.{is_greater, party_by}
 
 -- of two nonces of one length that differ one is greater
 
-pub greater_turned : (xs ys : List ℕ) → length xs ≡ length ys → bytes_eq xs ys ≡ false → is_greater xs ys ≡ not (is_greater ys xs)
+greater_turned : (xs ys : List ℕ) → length xs ≡ length ys → bytes_eq xs ys ≡ false → is_greater xs ys ≡ not (is_greater ys xs)
 greater_turned [] [] long e = cc
 greater_turned [] (y ∷ ys) long e = absurd (omega arith)
 greater_turned (x ∷ xs) [] long e = absurd (omega arith)

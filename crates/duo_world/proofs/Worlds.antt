@@ -119,19 +119,3 @@ stepped d d' s reply h terms steps works made =
       },
       record { nonces = subst (λ t. HaveNonces (terms_at_a t)) (sym terms) h.nonces; stands = stands },
     )
-
--- a made step doesn't answer want of memory
-
-pub stepped_answers : (d d' : DuoState) (s : Step) (reply : DuoAnswer) → IsStepped d d' s reply → Steps d d' s reply
-stepped_answers d d' s (duo.Replied r es) h = h
-stepped_answers d d' s (duo.Delivered k es) h = h
-stepped_answers d d' s duo.Ended h = h
-stepped_answers d d' s duo.OutOfMemory h = absurd (never (side_of s) s h.reply_is)
-  where
-    never : (side : Side) (t : Step) → duo.OutOfMemory ≡ answer_on d.terms side t (run d.terms d.steps) → ⊥
-    never A (step.Call side c) e = cc
-    never A (step.Deliver side n) e = cc
-    never A (step.End side) e = cc
-    never B (step.Call side c) e = cc
-    never B (step.Deliver side n) e = cc
-    never B (step.End side) e = cc
