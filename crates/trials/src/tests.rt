@@ -1,0 +1,146 @@
+//! Trials in the three versions, and an acknowledgement that is lost.
+
+use crate::channels::Channel;
+use crate::flight::{Emitted, SeenFrame};
+use crate::sums::{Seen, direction_of};
+use crate::trial::{Met, Trial, Wrong};
+use mux_end::MuxEnd;
+use mux_items::ChannelKey;
+use mux_run::Side;
+use std::alloc::Global;
+use std::test::Fail;
+use wire_base::{OutOfMemory, Text, Version};
+
+const VERSIONS: [Version; 3] = [Version::One, Version::Two, Version::Three];
+
+const SEEDS: [u64; 4] = [1, 2, 3, 4];
+
+/// The drawn steps of one trial.
+const STEPS: usize = 170;
+
+/// What is wrong in the trial of a seed, which ends at rest, and what it met.
+fn outcome(
+    alloc: Global,
+    version: Version,
+    seed: u64,
+) -> Result<(Option<Wrong>, Met), OutOfMemory> {
+    let mut trial = Trial::start(alloc, version, seed)?;
+    let wrong = match trial.run(STEPS)? {
+        Some(wrong) => Some(wrong),
+        None => trial.rest()?,
+    };
+    Ok((wrong, trial.met))
+}
+
+/// Everything. Version 1 has no acknowledgements.
+fn met_in(version: Version) -> Met {
+    Met {
+        content: true,
+        acknowledgements: version != Version::One,
+        unread: true,
+        cut: true,
+        rest: true,
+    }
+}
+
+#[test]
+fn sums_hold_after_drawn_steps(rt: HostRuntime) -> Result<(), Fail> {
+    for version in VERSIONS {
+        let mut all = Met::default();
+        for seed in SEEDS {
+            let (wrong, met) = outcome(rt.alloc(), version, seed)?;
+            assert_eq!(rt; wrong, None, "{version:?}, seed {seed}");
+            all.add(met);
+        }
+        assert_eq!(rt; all, met_in(version), "{version:?}");
+    }
+    Ok(())
+}
+
+/// The channel of the ends that are driven by hand.
+const CHANNEL: Channel = Channel {
+    offerer: Side::A,
+    id: 1,
+    offered: 8,
+    accepted: 4,
+};
+
+const AT_A: ChannelKey = ChannelKey { id: 1, own: true };
+
+const AT_B: ChannelKey = ChannelKey { id: 1, own: false };
+
+/// At least as many steps as there are frames in what is fed at once.
+const FRAMES: usize = 4;
+
+/// Applies all that was fed.
+fn apply(end: &mut MuxEnd) {
+    for _ in 0..FRAMES {
+        let _step = end.step();
+    }
+}
+
+/// Brings what one end has to send to the other.
+fn pass(from: &mut MuxEnd, to: &mut MuxEnd) -> Result<(), OutOfMemory> {
+    let _state = to.feed(from.pending_output())?;
+    lose(from);
+    apply(to);
+    Ok(())
+}
+
+/// Drops what an end has to send.
+fn lose(end: &mut MuxEnd) {
+    let count = end.pending_output().len();
+    end.took(count);
+}
+
+/// Two ends where A's channel is live.
+fn pair(alloc: Global) -> Result<(MuxEnd, MuxEnd), Fail> {
+    let mut a = MuxEnd::start(alloc, Version::Three, [0; 16])?;
+    let mut b = MuxEnd::start(alloc, Version::Three, [0; 16])?;
+    let _key = a.offer(&Text::from_str(alloc, "trial")?, CHANNEL.offered)?;
+    pass(&mut a, &mut b)?;
+    b.accept(AT_B, CHANNEL.accepted)?;
+    pass(&mut b, &mut a)?;
+    Ok((a, b))
+}
+
+fn in_flight(alloc: Global, end: &MuxEnd) -> Result<Vec<SeenFrame>, OutOfMemory> {
+    let mut emitted = Emitted::new(alloc, Version::Three);
+    emitted.note(0, end.pending_output())?;
+    Ok(emitted.frames()?.unwrap_or(Vec::new(alloc)))
+}
+
+/// Whether the credit of A's writing adds up.
+fn keeps_credit(alloc: Global, a: &MuxEnd, b: &MuxEnd) -> Result<bool, OutOfMemory> {
+    let from_a = in_flight(alloc, a)?;
+    let from_b = in_flight(alloc, b)?;
+    let writer = Seen {
+        side: Side::A,
+        end: a,
+        ahead: from_a.as_slice(),
+    };
+    let reader = Seen {
+        side: Side::B,
+        end: b,
+        ahead: from_b.as_slice(),
+    };
+    Ok(direction_of(writer, reader, &CHANNEL).is_some_and(|direction| direction.keeps_credit()))
+}
+
+/// Whether credit adds up while an acknowledgement is in flight, and after it is lost.
+fn before_and_after(alloc: Global) -> Result<(bool, bool), Fail> {
+    let (mut a, mut b) = pair(alloc)?;
+    a.write(AT_A, b"abc")?;
+    pass(&mut a, &mut b)?;
+    let mut bytes = Vec::new(alloc);
+    let _count = b.read(AT_B, 2, &mut bytes)?;
+    let before = keeps_credit(alloc, &a, &b)?;
+    lose(&mut b);
+    Ok((before, keeps_credit(alloc, &a, &b)?))
+}
+
+#[test]
+fn a_lost_acknowledgement_shows(rt: HostRuntime) -> Result<(), Fail> {
+    assert_eq!(rt; before_and_after(rt.alloc())?, (true, false));
+    Ok(())
+}
