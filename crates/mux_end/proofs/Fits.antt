@@ -12,7 +12,7 @@ use Rattle.wire_base.specs.declared.frame.Code.TheVariants as code
 use Rattle.wire_base.specs.declared.frame.Origin.TheVariants as origin
 use Rattle.wire_base.specs.declared.frame.Payload.TheVariants as payload
 use Rattle.mux_items.specs.declared.channel.ChannelKey.{ChannelKey}
-use Rattle.mux_items.specs.Bodies.{FrameBody, Offer, OfferAccepted, Content, ContentProcessed, frame_on, frame_of, is_one, origin_of, code_of, payload_of}
+use Rattle.mux_items.specs.Bodies.{FrameBody, Offer, OfferAccepted, Content, ContentWritingCompleted, ChannelTerminated, ContentProcessed, frame_on, frame_of, is_one, origin_of, code_of, payload_of}
 use Rattle.mux_items.specs.Due.{written_window}
 
 -- a choice of two short lists is short
@@ -94,6 +94,21 @@ length_fits_processed version.One count = refl
 length_fits_processed version.Two count = le-leb _ _ (omega (arith, unsigned_short count))
 length_fits_processed version.Three count = le-leb _ _ (omega (arith, unsigned_short count))
 
+code_fits_completed : (v : Version) → fits_code v code.ContentWritingCompleted payload.Nothing ≡ true
+code_fits_completed version.One = refl
+code_fits_completed version.Two = refl
+code_fits_completed version.Three = refl
+
+code_fits_terminated : (v : Version) → fits_code v code.ChannelTerminated payload.Nothing ≡ true
+code_fits_terminated version.One = refl
+code_fits_terminated version.Two = refl
+code_fits_terminated version.Three = refl
+
+length_fits_nothing : (v : Version) → fits_length v payload.Nothing ≡ true
+length_fits_nothing version.One = refl
+length_fits_nothing version.Two = refl
+length_fits_nothing version.Three = refl
+
 pub fits_offer : (v : Version) (key : ChannelKey) (name : List ℕ) (window : ℕ) → fits_id v key.id ≡ true → is_utf8 name ≡ true → length name ≤ 1024 → window < 0x8000000000000000
     → fits v (frame_of v (frame_on key (Offer name (written_window v window)))) ≡ true
 fits_offer v key name window id u short w =
@@ -111,4 +126,10 @@ pub fits_processed : (v : Version) (key : ChannelKey) (count : ℕ) → fits_id 
     → fits v (frame_of v (frame_on key (ContentProcessed count))) ≡ true
 fits_processed v key count id two w = body_fits v key (ContentProcessed count) id (code_fits_processed v count two w) (length_fits_processed v count)
 
-pub ruleset frames_fit = (is_utf8-from_IsUtf8, fits_offer, fits_accepted, fits_content, fits_processed)
+pub fits_completed : (v : Version) (key : ChannelKey) → fits_id v key.id ≡ true → fits v (frame_of v (frame_on key ContentWritingCompleted)) ≡ true
+fits_completed v key id = body_fits v key ContentWritingCompleted id (code_fits_completed v) (length_fits_nothing v)
+
+pub fits_terminated : (v : Version) (key : ChannelKey) → fits_id v key.id ≡ true → fits v (frame_of v (frame_on key ChannelTerminated)) ≡ true
+fits_terminated v key id = body_fits v key ChannelTerminated id (code_fits_terminated v) (length_fits_nothing v)
+
+pub ruleset frames_fit = (is_utf8-from_IsUtf8, fits_offer, fits_accepted, fits_content, fits_completed, fits_terminated, fits_processed)

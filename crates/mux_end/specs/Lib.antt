@@ -1,7 +1,8 @@
-pub mod Lane
 pub mod Stands
+pub mod Arrivals
 pub mod Replies
-pub mod Tests
-pub mod Sound
-pub mod Ends
+pub mod Known
+pub mod Heeded
+pub mod Keeps
 pub mod Reader
+pub mod Ends

@@ -1,18 +1,16 @@
-//! The frames that an end sends and takes.
+//! The frames that an end writes, each at the end of its output.
 
 ghost use Rattle.frame_text.specs.Frames.{fits, fits_id, text};
-ghost use Rattle.mux_items.specs.Bodies.{Content, ContentProcessed, Offer, OfferAccepted, frame_on, frame_text, frame_texts, is_one, origin_of};
-ghost use Rattle.mux_items.specs.Due.{content_frames, written_window};
+ghost use Rattle.mux_items.specs.Bodies.{ChannelTerminated, Content, ContentProcessed, ContentWritingCompleted, Offer, OfferAccepted, frame_on, frame_text, is_one, origin_of};
+ghost use Rattle.mux_items.specs.Due.{written_window};
+ghost use Rattle.mux_items.specs.Limits.{longest_name, piece_size};
 ghost use Rattle.std.specs.Prelude.{◌≡◌, ◌≤◌, ◌<◌, ◌++◌, length, false, true, OnOk};
 
-use frame_reader::AnyCodec;
+use any_codec::AnyCodec;
 use frame_text::FrameCodec;
 use mux_items::ChannelKey;
 use std::alloc::Global;
 use wire_base::{Blob, Code, Frame, Origin, OutOfMemory, Payload, Text, Version};
-
-/// The most bytes of one content frame.
-const PIECE_SIZE: usize = 20_480;
 
 fn origin(version: Version, key: ChannelKey) -> Origin
     ensures { result ≡ origin_of version key }
@@ -57,7 +55,6 @@ fn written_window(version: Version, window: u32) -> Option<u64>
     }
 }
 
-/// Writes an offer at the end of the output.
 #[tactic(auto, using(crate::proofs::Fits::frames_fit))]
 pub fn push_offer(
     alloc: Global,
@@ -68,7 +65,7 @@ pub fn push_offer(
     out: &mut Vec<u8>,
 ) -> Result<(), OutOfMemory>
     requires id { fits_id version key.id ≡ true }
-    requires short { length name.now ≤ 1024 }
+    requires short { length name.now ≤ longest_name }
     ensures { OnOk result (out.new.items ≡ out.old.items ++ frame_text version (frame_on key (Offer name.now (written_window version window)))) }
 {
     let name = Text::from_str(alloc, name.as_str())?;
@@ -76,7 +73,6 @@ pub fn push_offer(
     push_frame(version, &frame(version, key, Code::Offer, payload), out)
 }
 
-/// Writes an acceptance at the end of the output.
 #[tactic(auto, using(crate::proofs::Fits::frames_fit))]
 pub fn push_accepted(
     version: Version,
@@ -95,7 +91,6 @@ pub fn push_accepted(
     )
 }
 
-/// Writes an acknowledgement at the end of the output.
 #[tactic(auto, using(crate::proofs::Fits::frames_fit))]
 pub fn push_processed(
     version: Version,
@@ -117,7 +112,7 @@ pub fn push_processed(
 }
 
 #[tactic(auto, using(crate::proofs::Fits::frames_fit))]
-fn push_piece(
+pub fn push_content(
     alloc: Global,
     version: Version,
     key: ChannelKey,
@@ -125,29 +120,40 @@ fn push_piece(
     out: &mut Vec<u8>,
 ) -> Result<(), OutOfMemory>
     requires id { fits_id version key.id ≡ true }
-    requires short { length piece.now ≤ 20480 }
+    requires short { length piece.now ≤ piece_size }
     ensures { OnOk result (out.new.items ≡ out.old.items ++ frame_text version (frame_on key (Content piece.now))) }
 {
     let payload = Payload::Content(Blob::from_bytes(alloc, piece)?);
     push_frame(version, &frame(version, key, Code::Content, payload), out)
 }
 
-/// Writes content in pieces at the end of the output.
-pub fn push_content(
-    alloc: Global,
+#[tactic(auto, using(crate::proofs::Fits::frames_fit))]
+pub fn push_completed(
     version: Version,
     key: ChannelKey,
-    bytes: &[u8],
     out: &mut Vec<u8>,
 ) -> Result<(), OutOfMemory>
-    requires id { fits_id version key.id ≡ true }
-    ensures { OnOk result (out.new.items ≡ out.old.items ++ frame_texts version (content_frames key bytes.now)) }
+    requires { fits_id version key.id ≡ true }
+    ensures { OnOk result (out.new.items ≡ out.old.items ++ frame_text version (frame_on key ContentWritingCompleted)) }
 {
-    let mut left = bytes;
-    'pieces: while !left.is_empty() {
-        let (piece, more) = left.split_at(PIECE_SIZE.min(left.len()));
-        push_piece(alloc, version, key, piece, out)?;
-        left = more;
-    }
-    Ok(())
+    let frame = frame(
+        version,
+        key,
+        Code::ContentWritingCompleted,
+        Payload::Nothing,
+    );
+    push_frame(version, &frame, out)
+}
+
+#[tactic(auto, using(crate::proofs::Fits::frames_fit))]
+pub fn push_terminated(
+    version: Version,
+    key: ChannelKey,
+    out: &mut Vec<u8>,
+) -> Result<(), OutOfMemory>
+    requires { fits_id version key.id ≡ true }
+    ensures { OnOk result (out.new.items ≡ out.old.items ++ frame_text version (frame_on key ChannelTerminated)) }
+{
+    let frame = frame(version, key, Code::ChannelTerminated, Payload::Nothing);
+    push_frame(version, &frame, out)
 }

@@ -1,14 +1,18 @@
 //! One end of a multiplexing stream.
 #![tactic(auto)]
 
-mod channel;
+mod arriving;
+mod book;
+mod calls;
+mod channels;
+mod emission;
 mod end;
 mod frames;
+mod heeding;
+mod known;
+mod party;
 mod step;
 
 pub use end::MuxEnd;
 pub use mux_items::{ChannelKey, ChannelView, MuxEvent, Phase, Tally};
 pub use step::MuxStep;
-
-#[cfg(test)]
-mod tests;

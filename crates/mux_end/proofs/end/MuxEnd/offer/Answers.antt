@@ -1,25 +1,25 @@
-use Rattle.std.proofs.Common.{◌≡◌, None, sym, ◌∙◌, ap, subst, arith}
+use Rattle.std.proofs.Common.{◌≡◌, sym, ◌∙◌, ap, subst}
+use Rattle.mux_items.specs.declared.channel.ChannelKey.{ChannelKey}
 use Rattle.mux_items.specs.Items.{DidOffer}
-use Rattle.mux_items.specs.Kept.{own_id}
-use Rattle.mux_end.specs.Replies.{Adds}
-use Rattle.mux_end.specs.Tests.{lane_offer_refusal}
-use Rattle.mux_end.specs.Ends.{is_ready_end, own_party}
-use Rattle.mux_end.proofs.Answers.{call_done}
-use Rattle.mux_end.proofs.Lanes.{first_key}
-use Rattle.mux_end.proofs.Steps.{refuses_offer, adds_offered, next_key_is, over_running}
+use Rattle.mux_items.specs.Kept.{next_key}
+use Rattle.mux_items.specs.Refusals.{offer_refusal}
+use Rattle.mux_state.specs.Book.{Book, drawn_key, offer_test}
+use Rattle.mux_state.proofs.Books.{drawn_is, offer_by_book}
+use Rattle.mux_end.specs.Replies.{CallAnswers}
+use Rattle.mux_end.specs.Stands.{EndValue}
+use Rattle.mux_end.proofs.Answering.{call_answers}
 use Rattle.mux_end.proofs.end.MuxEnd.offer.Goals as goal
 
-pub returns-in-Ok-clause-answers : goal.returns-in-Ok-clause-answers
-returns-in-Ok-clause-answers c = λ items at rest s.
-    let self = c.args.self.now in
+pub returns-clause-answers : goal.returns-clause-answers
+returns-clause-answers c = λ items at rest s.
+    let old = c.args.self.now in
     let name = c.args.name.now in
     let window = c.args.window in
-    let key = c.first_key-key.result in
-    let first : key ≡ first_key (own_party self) = λ i. record { id = (c.first_key-key.ensures.id ∙ ap (λ party. own_id party 1) c.party.ensures) i; own = c.first_key-key.ensures.own i } in
-    let none : lane_offer_refusal self.state (is_ready_end self) name window ≡ None =
-    grind (arith, c.in_default.is, c.in_default.not-Some, c.unless_over.ensures, c.offer_refusal-refusal.ensures, c.is_ready.ensures) in
-    let next = first ∙ sym (next_key_is self items at rest s (over_running self.state _ none) c.requires) in
-    call_done _ _ items at rest _ _ _ _ (refuses_offer self items at rest name window s ∙ none)
-    (subst (λ k. Adds self c.offer_channel.new.self items at rest (DidOffer k name window)) next
-    (subst (λ e. Adds self e items at rest (DidOffer key name window)) (sym c.in-Ok.ensures.end) (adds_offered self items at rest key name window s c.requires first none)))
-    next
+    let refused = offer_refusal old.version name window items in
+    let book_is = ap (λ (e : EndValue). e.book) c.self.view_is ∙ s.book in
+    let drawn : drawn_key c.self.inside.book ≡ next_key items = ap (λ (b : Book). drawn_key b) book_is ∙ sym (drawn_is old.version items s.allowed) in
+    let law = offer_by_book old.version name window items s.allowed ∙ sym (ap (λ (b : Book). offer_test name window b) book_is) in
+    subst (λ (key : ChannelKey). CallAnswers old c.finish.new.self items at rest refused (DidOffer key name window) (λ answer. answer ≡ key) c.finish.result) drawn
+    (call_answers c.self.inside.nonce c.self.inside.output.items c.offer-offered.new.out.items c.self.inside.book c.offer-offered.new.self c.self.inside.reader items at rest (DidOffer (drawn_key c.self.inside.book) name window) _
+    c.self.inside.stopped old c.finish.new.self refused _ c.offer-offered.result c.finish.result c.self.view_is c.if-self.false s law (λ none. (none, drawn, s.allowed))
+    c.offer-offered.ensures.leaves c.offer-offered.ensures.output c.offer-offered.ensures.unwritten c.offer-offered.ensures.key c.finish.ensures.state c.finish.ensures.answer)

@@ -1,19 +1,18 @@
-use Rattle.std.proofs.Common.{◌≡◌, None, sym, ◌∙◌, subst, arith}
+use Rattle.std.proofs.Common.{sym, ◌∙◌, ap}
 use Rattle.mux_items.specs.Items.{DidWrite}
-use Rattle.mux_end.specs.Replies.{Adds}
-use Rattle.mux_end.specs.Tests.{lane_write_refusal}
-use Rattle.mux_end.proofs.Answers.{call_done, call_refused}
-use Rattle.mux_end.proofs.Steps.{refuses_write, adds_written}
+use Rattle.mux_items.specs.Refusals.{unless_ended, write_refusal}
+use Rattle.mux_state.specs.Book.{Book, found, kept_in}
+use Rattle.mux_state.specs.Tests.{on_kept, write_test}
+use Rattle.mux_state.proofs.Books.{write_by_book}
+use Rattle.mux_end.specs.Stands.{EndValue}
+use Rattle.mux_end.proofs.Answering.{any_answer, call_answers}
 use Rattle.mux_end.proofs.end.MuxEnd.write.Goals as goal
 
-pub returns-in-Some-clause-answers : goal.returns-in-Some-clause-answers
-returns-in-Some-clause-answers c = λ items at rest s.
-    call_refused _ items at rest _ _ _ _ (refuses_write _ items at rest c.args.key c.args.bytes.now s ∙ sym c.in-Some.ensures)
-
-pub returns-in-Ok-clause-answers : goal.returns-in-Ok-clause-answers
-returns-in-Ok-clause-answers c = λ items at rest s.
-    let self = c.args.self.now in
-    let none : lane_write_refusal self.state self.channel c.args.key c.args.bytes.now ≡ None = grind (arith, c.in_default.is, c.in_default.not-Some, c.write_refusal.ensures) in
-    call_done _ _ items at rest _ _ _ _ (refuses_write self items at rest c.args.key c.args.bytes.now s ∙ none)
-    (subst (λ e. Adds self e items at rest (DidWrite c.args.key c.args.bytes.now)) (sym (c.in-Ok.ensures.end)) (adds_written self items at rest c.args.key c.args.bytes.now s none))
-    tt
+pub returns-clause-answers : goal.returns-clause-answers
+returns-clause-answers c = λ items at rest s.
+    let old = c.args.self.now in
+    let law = write_by_book old.version c.args.key c.args.bytes.now items
+    ∙ sym (ap (λ (b : Book). unless_ended b.cause (on_kept (kept_in (found c.args.key b)) (write_test c.args.bytes.now))) (ap (λ (e : EndValue). e.book) c.self.view_is ∙ s.book)) in
+    call_answers c.self.inside.nonce c.self.inside.output.items c.write-written.new.out.items c.self.inside.book c.write-written.new.self c.self.inside.reader items at rest (DidWrite c.args.key c.args.bytes.now) _
+    c.self.inside.stopped old c.finish.new.self (write_refusal old.version c.args.key c.args.bytes.now items) _ c.write-written.result c.finish.result c.self.view_is c.if-self.false s law (λ none. (none, s.allowed))
+    c.write-written.ensures.leaves c.write-written.ensures.output c.write-written.ensures.unwritten (any_answer c.write-written.result) c.finish.ensures.state c.finish.ensures.answer
