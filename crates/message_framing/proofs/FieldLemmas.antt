@@ -1,5 +1,5 @@
 -- Values without blanks, and parts up to a mark.
-use Rattle.std.proofs.Common.{◌≡◌, ℕ, ◌<◌, ◌^◌, ◌*◌, ◌+◌, zero, suc, Bool, true, false, List, [], ◌∷◌, ◌++◌, refl, ap, ◌∙◌, arith, add-one, ◌==◌}
+use Rattle.std.proofs.Common.{◌≡◌, ℕ, ◌<◌, ◌^◌, ◌*◌, ◌+◌, zero, suc, true, false, List, [], ◌∷◌, ◌++◌, refl, ap, arith, add-one, ◌==◌}
 use Rattle.std.proofs.lemmas.Bool.{or_parts}
 use Rattle.std.proofs.Math.Nat.{pow-suc}
 use Rattle.message_framing.specs.Fields.{is_blank, onto_trimmed, trim_back, before, has}

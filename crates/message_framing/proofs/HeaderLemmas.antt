@@ -1,13 +1,11 @@
 -- What a header says: a length in its range, or an offset in it.
-use Rattle.std.proofs.Common.{◌≡◌, ℕ, ◌+◌, ◌<◌, ◌≤◌, inl, inr, Bool, true, false, ltb, cond, List, [], ◌∷◌, ◌++◌, length, Option, Some, None, is_some, Result, Ok, Err, refl, sym, ap, ◌∙◌, arith, length-append, ◌==◌, ◌||◌}
-use Rattle.std.proofs.lemmas.Bool.{cases_lt, le-ltb, lt-ltb, eqb-false, or_parts}
+use Rattle.std.proofs.Common.{◌≡◌, ℕ, ◌+◌, ◌<◌, ◌≤◌, inl, inr, Bool, true, false, ltb, cond, List, [], ◌∷◌, length, Option, Some, None, is_some, Result, Ok, Err, refl, ◌∙◌, arith, length-append, ◌==◌, ◌||◌}
+use Rattle.std.proofs.lemmas.Bool.{cases_lt, lt-ltb, eqb-false, or_parts}
 use Rattle.std.specs.Prelude.{codes}
 use Rattle.wire_base.specs.declared.reason.Reason.{Reason}
-use Rattle.wire_base.specs.declared.reason.Reason.TheVariants.{BadHeader, LengthTooBig, BadLength, BadCharset}
 use Rattle.message_framing.specs.Fields.{is_no_field, is_same, name_of, value_of, number_in, has_other_charset}
 use Rattle.message_framing.specs.Lines.{part}
 use Rattle.message_framing.specs.Header.{max_body, with_number, with_line, Said, told_at, say, length_at, header_from, header_of}
-use Rattle.message_framing.proofs.Parts.{tested}
 
 -- a length of a content part
 abbrev pub InRange : ℕ → Type 0

@@ -6,3 +6,4 @@ pub mod FrontLemmas
 pub mod Streams
 pub mod WrapLemmas
 pub mod OneStream
+pub mod Known

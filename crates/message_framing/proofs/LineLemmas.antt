@@ -1,8 +1,7 @@
 -- Lines, one after another.
 use Rattle.std.proofs.Common.{◌≡◌, ℕ, ◌+◌, ◌-◌, ◌<◌, ◌≤◌, true, false, List, [], ◌∷◌, ◌++◌, length, get_or, take, drop, Option, Some, None, option_map, refl, sym, ap, ◌∙◌, append_assoc, arith, length-append, length-drop}
 use Rattle.std.proofs.lemmas.List.{append-nil, take_more, take_all, drop_more, drop_all, drop-drop, length-take-le}
-use Rattle.message_framing.specs.Lines.{is_end, onto, lines_of, before_empty, header_lines}
-use Rattle.message_framing.specs.Header.{Said, say, header_from}
+use Rattle.message_framing.specs.Lines.{is_end, onto, lines_of}
 
 -- bytes in front of the first line
 abbrev pub onto_all : List ℕ → List (List ℕ) → List (List ℕ)

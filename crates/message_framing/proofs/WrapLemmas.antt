@@ -1,7 +1,6 @@
 -- What is wrapped is read back.
-use Rattle.std.proofs.Common.{◌≡◌, ℕ, ◌+◌, ◌-◌, ◌*◌, ◌/◌, ◌%◌, ◌^◌, ◌<◌, ◌≤◌, pos, ◌&&◌, ◌||◌, ◌==◌, not, ltb, leb, cond, Bool, true, false, List, [], ◌∷◌, ◌++◌, length, take, drop, Option, Some, None, option_map, option_and_then, Result, Ok, Err, decimal, refl, sym, ap, ap₂, ◌∙◌, append_assoc, append-nil, zero-add, take-append-drop, arith, length-append}
+use Rattle.std.proofs.Common.{◌≡◌, ℕ, ◌+◌, ◌-◌, ◌*◌, ◌/◌, ◌%◌, ◌^◌, ◌<◌, ◌≤◌, pos, false, List, [], ◌∷◌, ◌++◌, length, take, drop, Option, Some, None, option_map, option_and_then, Ok, decimal, refl, sym, ap, ap₂, ◌∙◌, append_assoc, append-nil, zero-add, take-append-drop, arith, length-append}
 use Rattle.std.specs.Prelude.{codes}
-use Rattle.std.specs.Char.{is_ascii_digit}
 use Rattle.std.specs.Int.{w32, cast_signed, from_be_bytes, to_be_bytes}
 use Rattle.std.specs.List.{list_any}
 use Rattle.std.proofs.lemmas.Bool.{le-ltb, lt-ltb, le-leb, ne_eqb, or_from}
@@ -12,11 +11,9 @@ use Rattle.std.proofs.lemmas.List.{drop_at, take_at, length-take}
 use Rattle.std.proofs.Math.Seq.{take-append-add, take-append_seam}
 use Rattle.message_framing.specs.declared.framing.Framing.{Framing}
 use Rattle.message_framing.specs.declared.framing.Framing.TheVariants as framing
-use Rattle.message_framing.specs.declared.front.Front.{Front}
-use Rattle.message_framing.specs.declared.front.Front.TheVariants.{Whole, Short, Broken}
-use Rattle.message_framing.specs.declared.header.Header.{Header}
+use Rattle.message_framing.specs.declared.front.Front.TheVariants.{Whole, Short}
 use Rattle.message_framing.specs.Fields.{is_blank, is_foreign, onto_trimmed, trim_front, trim_back, digit_in, number_from, number_in, is_no_field, value_of}
-use Rattle.message_framing.specs.Lines.{line_end, is_end, header_lines, IsLine, AreLines, part}
+use Rattle.message_framing.specs.Lines.{line_end, is_end, header_lines, IsLine, part}
 use Rattle.message_framing.specs.Header.{max_body, with_number, with_line, told_at, length_at, header_of}
 use Rattle.message_framing.specs.Front.{max_header, behind, by_header, length_in, header_front, length_front, front, IsMessage}
 use Rattle.message_framing.specs.Wrapped.{head_text, wrapped}

@@ -2,6 +2,7 @@ pub mod Lines
 pub mod Fields
 pub mod Header
 pub mod Front
+pub mod Framed
 pub mod Wrapped
 pub mod Unread
 pub mod Holds

@@ -1,6 +1,6 @@
 //! Header parts.
 
-ghost use Rattle.std.specs.Prelude.{◌≡◌, ◌∷◌, ◌+◌, [], length, Ok, ◌≤◌, IfSome, MatchOption, option_map};
+ghost use Rattle.std.specs.Prelude.{◌≡◌, ◌≤◌, ◌∷◌, ◌+◌, [], length, IfSome, MatchOption, option_map};
 ghost use Rattle.message_framing.specs.Lines.{is_end, lines_of, header_lines};
 ghost use Rattle.message_framing.specs.Header.{with_number, with_line, say, length_at, header_of};
 

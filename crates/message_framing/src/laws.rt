@@ -1,10 +1,11 @@
 //! Laws of framed messages and of their reading.
 
 ghost use Rattle.message_framing.specs.declared.framing.Framing.{Framing};
-ghost use Rattle.message_framing.specs.declared.front.Front.{Front};
+ghost use Rattle.message_framing.specs.declared.framing.Framing.TheVariants as framing;
 ghost use Rattle.message_framing.specs.declared.front.Front.TheVariants.{Whole, Short, Broken};
 ghost use Rattle.message_framing.specs.declared.next_body.NextBody.{NextBody};
 ghost use Rattle.message_framing.specs.declared.next_body.NextBody.TheVariants as next;
+ghost use Rattle.message_framing.specs.Framed.{BreaksARule, HasContent};
 ghost use Rattle.message_framing.specs.Front.{front, IsMessage};
 ghost use Rattle.message_framing.specs.Header.{max_body};
 ghost use Rattle.message_framing.specs.Lines.{HasPart, header_lines};
@@ -19,6 +20,12 @@ ghost use Rattle.wire_base.specs.declared.reason.Reason.{Reason};
 /// A header's lines are those of the header part that stands in front.
 pub fn headers_are_parts()
     ensures { (bytes : List ℕ) (lines : List (List ℕ)) → (header_lines bytes ≡ Some lines) ↔ HasPart bytes lines }
+{}
+
+/// What stands at the front where messages have header parts.
+pub fn header_fronts_are_known()
+    ensures whole { (bytes : List ℕ) (start size : ℕ) → (front framing.Header bytes ≡ Whole start size) ↔ HasContent bytes start size }
+    ensures broken { (bytes : List ℕ) (offset : ℕ) (reason : Reason) → (front framing.Header bytes ≡ Broken offset reason) ↔ BreaksARule bytes offset reason }
 {}
 
 /// What stands at the front is told by its own bytes, and stays whatever follows; fewer are too few to tell.

@@ -14,8 +14,8 @@ mod wrapping;
 pub use framing::Framing;
 pub use front::Front;
 pub use laws::{
-    fronts_stay, headers_are_parts, messages_are_apart, pieces_are_one_stream,
-    stream_has_one_answer, wrapped_is_read,
+    fronts_stay, header_fronts_are_known, headers_are_parts, messages_are_apart,
+    pieces_are_one_stream, stream_has_one_answer, wrapped_is_read,
 };
 pub use next_body::NextBody;
 pub use reader::MessageReader;

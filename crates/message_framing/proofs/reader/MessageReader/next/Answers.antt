@@ -1,6 +1,6 @@
 use Rattle.std.proofs.Common.{◌+◌, rules, arith}
 use Rattle.std.proofs.lemmas.Grind.{common_steps}
-use Rattle.message_framing.specs.Answers.{Answers, Gives}
+use Rattle.message_framing.specs.Answers.{Answers}
 use Rattle.message_framing.specs.declared.next_body.NextBody.TheVariants as next
 use Rattle.message_framing.proofs.Streams.{reads-answer, answer-follows}
 use Rattle.message_framing.proofs.reader.MessageReader.next.Goals as goal
