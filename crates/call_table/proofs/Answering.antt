@@ -12,16 +12,15 @@ use Rattle.wire_base.specs.declared.text.Id.{Id}
 use Rattle.wire_base.specs.declared.text.Id.TheVariants.{Number, Name}
 use Rattle.rpc_items.specs.declared.calls.Answer.{Answer}
 use Rattle.rpc_items.specs.declared.calls.Outcome.{Outcome}
-use Rattle.rpc_items.specs.declared.calls.Outcome.TheVariants.{Replied, Failed, Lost, Starved}
+use Rattle.rpc_items.specs.declared.calls.Outcome.TheVariants.{Lost, Starved}
 use Rattle.rpc_items.specs.declared.messages.Message.{Message}
 use Rattle.rpc_items.specs.declared.messages.Message.TheVariants.{Request}
-use Rattle.rpc_items.specs.declared.messages.Message.TheVariants as message
 use Rattle.rpc_items.specs.declared.messages.Params.{Params}
 use Rattle.rpc_items.specs.Ids.{same_id, numbered_id}
-use Rattle.rpc_items.specs.Meanings.{Meaning, meaning}
+use Rattle.rpc_items.specs.Meanings.{meaning}
 use Rattle.rpc_items.specs.Items.{RpcItem, Did, Got, End, Respond, Forget, is_running}
 use Rattle.rpc_items.specs.Drawn.{Asked, with_number, asked, asked_at, asked_by, drawn, is_drawn, is_forgotten}
-use Rattle.rpc_items.specs.Outcomes.{Look, Known, NoRequest, look_at, outcome, is_known, answer_to, response_in, is_unanswered, request_named}
+use Rattle.rpc_items.specs.Outcomes.{NoRequest, look_at, is_known, answer_to, is_unanswered, request_named}
 use Rattle.rpc_items.specs.Events.{answered_event}
 use Rattle.rpc_items.specs.Stable.{Settles}
 use Rattle.rpc_items.specs.Waiting.{asks, is_waiting}
@@ -33,11 +32,11 @@ use Rattle.call_table.specs.declared.entry.Kept.{Kept}
 use Rattle.call_table.specs.declared.entry.Kept.TheVariants.{Answered, Forgotten}
 use Rattle.call_table.specs.declared.answers.Settled.{Settled}
 use Rattle.call_table.specs.declared.answers.Settled.TheVariants.{First, Stray}
-use Rattle.call_table.specs.Table.{TableValue, with_kept, kept_at, settled, settled_in, settled_by, named_in, entry_of, heard, answered, over, unless_some, waits_in, look_in}
-use Rattle.call_table.specs.Stands.{TableStands, kept_unless, kept_of, entry_as, entry_at, rest_by, can_come, response_of}
+use Rattle.call_table.specs.Table.{TableValue, with_kept, kept_at, settled, settled_in, settled_by, entry_of, heard, answered, over, unless_some, look_in}
+use Rattle.call_table.specs.Stands.{TableStands, kept_unless, kept_of, entry_as, entry_at, rest_by, can_come}
 use Rattle.call_table.proofs.Places.{three_ways, kept_at_same, kept_at_other, length-kept_at}
 use Rattle.call_table.proofs.Reading.{names, numbered, drawn_some, looks}
-use Rattle.call_table.proofs.Standing.{IsQuiet, passed, passed_with, asked_same, entry_same, kept_same, call_same, end_same, can_come_more, forgotten_then}
+use Rattle.call_table.proofs.Standing.{passed, passed_with, asked_same, entry_same, kept_same, call_same, end_same, can_come_more, forgotten_then}
 
 -- requests of the peer
 

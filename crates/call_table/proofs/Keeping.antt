@@ -1,6 +1,6 @@
 -- A request of which another thing is kept.
-use Rattle.std.specs.Prelude.{set, slice_get, zero, suc}
-use Rattle.std.proofs.Common.{◌≡◌, ℕ, ◌<◌, List, [], ◌∷◌, length, get_or, refl, ap, arith}
+use Rattle.std.specs.Prelude.{set, zero, suc}
+use Rattle.std.proofs.Common.{◌≡◌, ℕ, ◌<◌, List, [], ◌∷◌, length, get_or, ap, arith}
 use Rattle.call_table.specs.declared.entry.Entry.{Entry}
 use Rattle.call_table.specs.declared.entry.Kept.{Kept}
 use Rattle.call_table.specs.Table.{kept_at}

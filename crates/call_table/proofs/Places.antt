@@ -1,6 +1,6 @@
 -- What stands at a place of a list of requests.
-use Rattle.std.specs.Prelude.{◌&&◌, ◌==◌, Bool, true, false, ◌⊎◌, nat_lt, nat_le, is_some, slice_get, if◌then◌else◌, zero, suc}
-use Rattle.std.proofs.Common.{◌≡◌, ◌≢◌, ℕ, ◌+◌, ◌-◌, ◌<◌, ◌≤◌, List, [], ◌∷◌, ◌++◌, length, refl, sym, ◌∙◌, ap, inl, inr, arith, Option, Some, None, le-leb}
+use Rattle.std.specs.Prelude.{◌&&◌, ◌==◌, true, false, ◌⊎◌, nat_lt, nat_le, is_some, slice_get, zero, suc}
+use Rattle.std.proofs.Common.{◌≡◌, ◌≢◌, ℕ, ◌-◌, ◌<◌, List, [], ◌∷◌, ◌++◌, length, refl, sym, ◌∙◌, ap, inl, inr, arith, Some, le-leb}
 use Rattle.std.proofs.lemmas.Bool.{cases_Bool, cases_lt, lt-ltb, lt-leb, eq-eqb, eqb-true}
 use Rattle.std.proofs.lemmas.Option.{slice_get_past}
 use Rattle.rpc_items.specs.Drawn.{with_number}

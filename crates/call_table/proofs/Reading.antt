@@ -1,14 +1,13 @@
 -- What a table that stands for items tells is what the items tell.
 use Rattle.std.specs.Prelude.{◌&&◌, ◌==◌, Bool, true, false, not, is_none, is_some, slice_get, option_map, pos, negsuc, if◌then◌else◌}
-use Rattle.std.proofs.Common.{◌≡◌, ℕ, ◌+◌, ◌-◌, ◌<◌, List, length, refl, sym, ◌∙◌, ap, ap₂, inl, inr, arith, Option, Some, None}
+use Rattle.std.proofs.Common.{◌≡◌, ℕ, ◌+◌, ◌-◌, ◌<◌, List, refl, sym, ◌∙◌, ap, ap₂, inl, inr, arith, Option, Some, None}
 use Rattle.std.proofs.lemmas.Bool.{cases_Bool, cases_lt, eq-eqb}
 use Rattle.wire_base.specs.declared.text.Id.{Id}
 use Rattle.wire_base.specs.declared.text.Id.TheVariants.{Number, Name}
 use Rattle.rpc_items.specs.declared.calls.Outcome.{Outcome}
 use Rattle.rpc_items.specs.Items.{RpcItem, is_running}
-use Rattle.rpc_items.specs.Drawn.{Asked, with_number, asked, asked_at, drawn, is_drawn, is_forgotten}
-use Rattle.rpc_items.specs.Outcomes.{Look, NoRequest, look_at, outcome, answer_to, is_unanswered, request_named}
-use Rattle.call_table.specs.declared.answers.Settled.{Settled}
+use Rattle.rpc_items.specs.Drawn.{Asked, with_number, asked, asked_at, is_drawn, is_forgotten}
+use Rattle.rpc_items.specs.Outcomes.{NoRequest, look_at, outcome, answer_to, is_unanswered, request_named}
 use Rattle.call_table.specs.declared.entry.Entry.{Entry}
 use Rattle.call_table.specs.Table.{TableValue, waits_for, named_in, entry_of, settled_by, settled_in, look_at_entry, look_in}
 use Rattle.call_table.specs.Stands.{TableStands, kept_unless, kept_of, entry_as, rest_by, can_come, settling_by, asked_of, settling}

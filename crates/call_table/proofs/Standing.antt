@@ -1,24 +1,22 @@
 -- A table stands for the items again after each call.
-use Rattle.std.specs.Prelude.{◌&&◌, ◌||◌, ◌==◌, Bool, true, false, ◌⊎◌, not, nat_lt, nat_le, filter, is_none, is_some, slice_get, option_map, if◌then◌else◌}
+use Rattle.std.specs.Prelude.{◌&&◌, Bool, true, false, ◌⊎◌, nat_lt, nat_le, slice_get, option_map, if◌then◌else◌}
 use Rattle.std.specs.List.{list_any}
-use Rattle.std.proofs.Common.{◌≡◌, ◌≢◌, ℕ, ◌+◌, ◌-◌, ◌<◌, ◌≤◌, List, [], ◌∷◌, ◌++◌, length, refl, sym, ◌∙◌, ap, ap₂, inl, inr, arith, Option, Some, None, length-append}
+use Rattle.std.proofs.Common.{◌≡◌, ℕ, ◌+◌, ◌<◌, List, [], ◌∷◌, ◌++◌, length, refl, sym, ◌∙◌, ap, ap₂, inl, inr, arith, Option, Some, None, length-append}
 use Rattle.std.proofs.lemmas.Bool.{cases_Bool, and_parts, leb-true}
 use Rattle.std.proofs.lemmas.Option.{slice_get_past}
 use Rattle.wire_base.specs.declared.state.Cause.{Cause}
 use Rattle.wire_base.specs.declared.text.Id.{Id}
-use Rattle.rpc_items.specs.declared.calls.Expect.{Expect}
 use Rattle.rpc_items.specs.declared.calls.Outcome.{Outcome}
 use Rattle.rpc_items.specs.Ids.{same_id}
-use Rattle.rpc_items.specs.Items.{RpcItem, Did, Got, End, RpcCall, Ask, Next, Invoke, is_running}
+use Rattle.rpc_items.specs.Items.{RpcItem, Did, End, RpcCall, Ask, Next, Invoke, is_running}
 use Rattle.rpc_items.specs.Drawn.{Asked, asked, asked_by, drawn, is_drawn, is_forgotten}
-use Rattle.rpc_items.specs.Outcomes.{answer_to, response_to, first_of, is_unanswered}
+use Rattle.rpc_items.specs.Outcomes.{answer_to, response_to, first_of}
 use Rattle.rpc_items.specs.Waiting.{is_waiting}
 use Rattle.rpc_items.proofs.Settling.{same}
 use Rattle.rpc_items.proofs.Stable.{is_drawn_more, ended_more, answer_more}
-use Rattle.call_table.specs.declared.entry.Entry.{Entry}
 use Rattle.call_table.specs.declared.entry.Kept.{Kept}
 use Rattle.call_table.specs.declared.entry.Kept.TheVariants.{Waiting}
-use Rattle.call_table.specs.Table.{TableValue, empty, begun, waits_in}
+use Rattle.call_table.specs.Table.{TableValue, empty, begun}
 use Rattle.call_table.specs.Stands.{TableStands, kept_unless, kept_of, entry_as, entry_at, rest_by, can_come}
 use Rattle.call_table.proofs.Places.{get_before, get_last, three_ways}
 

@@ -1,7 +1,7 @@
 -- How the logic stores a table: each as a stored value, no two as one.
 use Rattle.std.specs.Prelude.{◌≡◌, ℕ, ℤ, pos, List, [], Bool, true, false, ◌==◌, if◌then◌else◌, Option, Some, None, refl}
 use Rattle.std.specs.Coded.{Coded, code_by, coded×, coded_ℕ, coded_ℤ, coded_bool, coded_list, coded_option}
-use Rattle.wire_base.specs.Tree.{Tree, nil}
+use Rattle.wire_base.specs.Tree.{Tree}
 use Rattle.wire_base.specs.Codes.{coded_tree}
 use Rattle.wire_base.specs.declared.text.Id.{Id}
 use Rattle.wire_base.specs.declared.text.Id.TheVariants.{Number, Name}

@@ -1,5 +1,5 @@
 -- What a table keeps, and what its calls make of it.
-use Rattle.std.specs.Prelude.{ℕ, zero, suc, ◌-◌, pos, List, [], ◌∷◌, ◌++◌, length, Bool, true, false, not, ◌&&◌, filter, set, is_none, slice_get, if◌then◌else◌, Option, Some, None}
+use Rattle.std.specs.Prelude.{ℕ, zero, suc, ◌-◌, pos, List, [], ◌∷◌, ◌++◌, Bool, true, false, not, ◌&&◌, filter, is_none, if◌then◌else◌, Option, Some, None}
 use Rattle.std.specs.List.{list_any}
 use Rattle.wire_base.specs.declared.text.Id.{Id}
 use Rattle.wire_base.specs.declared.text.Id.TheVariants.{Number}

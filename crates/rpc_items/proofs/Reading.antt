@@ -1,6 +1,6 @@
 -- What is written as a value is read as the same message.
 use Rattle.std.specs.Prelude.{if◌then◌else◌, Bool, true, Ok, Err}
-use Rattle.std.proofs.Common.{◌≡◌, ℕ, List, [], ◌∷◌, refl, ◌∙◌, ap, ap₂, Some, None}
+use Rattle.std.proofs.Common.{◌≡◌, List, [], ◌∷◌, refl, ◌∙◌, ap, ap₂, Some, None}
 use Rattle.wire_base.specs.Tree as tree
 use Rattle.wire_base.specs.Tree.{Tree, trees_of, list_of, pairs_of, pair_list_of}
 use Rattle.wire_base.specs.declared.reason.Reason.TheVariants as reason

@@ -1,6 +1,6 @@
 -- What the table tells is what the items tell.
 use Rattle.std.proofs.Common.{rules, ◌≡◌, ◌∙◌}
-use Rattle.rpc_items.specs.Outcomes.{Look, Known, NotYet, NoRequest}
+use Rattle.rpc_items.specs.Outcomes.{Known, NotYet, NoRequest}
 use Rattle.call_table.specs.Table.{look_in}
 use Rattle.call_table.proofs.Reading.{looks}
 use Rattle.call_table.proofs.table.CallTable.outcome.Goals as goal
