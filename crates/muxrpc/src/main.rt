@@ -1,10 +1,10 @@
-//! The program `muxrpc`: the standard streams and the words of the command line, handed to the call that does the work.
+//! The program `muxrpc`: the words of the command line and the standard streams, handed to the call that does the work.
 #![tactic(auto)]
 
-use muxrpc_app::{Status, run_plain, status_line};
+use muxrpc_app::{Status, run_command, tell};
 use std::alloc::Global;
 use std::env::{self, Args};
-use std::io::{self, Write};
+use std::io;
 use std::process::ExitCode;
 use wire_base::{OutOfMemory, StdSink, StdSource, Text};
 
@@ -19,20 +19,17 @@ fn texts(alloc: Global, words: Args) -> Result<Vec<Text>, OutOfMemory> {
 
 fn main(rt: HostRuntime) -> ExitCode {
     let alloc = rt.alloc();
-    let status = match env::args(&rt) {
+    let mut errors = StdSink::new(rt.stderr());
+    let code = match env::args(&rt) {
         Ok(words) => match texts(alloc, words) {
             Ok(words) => {
                 let mut input = StdSource::new(rt.reader());
                 let mut output = StdSink::new(io::writer(&rt));
-                run_plain(alloc, &words, &mut input, &mut output)
+                run_command(alloc, &words, &mut input, &mut output, &mut errors)
             }
-            Err(OutOfMemory) => Status::OutOfMemory,
+            Err(OutOfMemory) => tell(&Status::OutOfMemory, &mut errors),
         },
-        Err(_) => Status::Usage,
+        Err(_) => tell(&Status::Usage, &mut errors),
     };
-    let mut line = Vec::new(alloc);
-    if status_line(&status, &mut line).is_ok() {
-        let _ = rt.stderr().write_all(&line);
-    }
-    ExitCode::from(status.code())
+    ExitCode::from(code)
 }

@@ -1,5 +1,5 @@
 -- What a replay has read and written when it answers a status.
-use Rattle.std.specs.Prelude.{◌≡◌, ◌≤◌, ℕ, List, Bool, true, length, Option}
+use Rattle.std.specs.Prelude.{◌≡◌, ◌≤◌, ◌↔◌, ◌⊎◌, ℕ, List, true, false, length}
 use Rattle.std.specs.Io.KnownBytes.{append_known}
 use Rattle.wire_base.specs.Causes.{Rose}
 use Rattle.mux_run.specs.declared.steps.Step.{Step}
@@ -9,23 +9,13 @@ use Rattle.script.specs.Found.{script_in, reads, breaks}
 use Rattle.script.specs.Numbers.{script_reason_number}
 use Rattle.script.specs.declared.reason.ScriptReason.{ScriptReason}
 use Rattle.transcript.specs.Report.{report_text}
-use Rattle.muxrpc_app.specs.Streams.{WasRead, HoldsNothing, ReadWithin, ReadPast, WroteFront, most_input}
+use Rattle.muxrpc_app.specs.Streams.{SourceState, SinkState, WasRead, HoldsNothing, ReadWithin, ReadPast, WroteFront, most_input}
+use Rattle.muxrpc_app.specs.StatusText.{status_code, status_text}
+use Rattle.muxrpc_app.specs.Words.{is_replay}
 use Rattle.muxrpc_app.specs.declared.input.InputFault.{InputFault}
 use Rattle.muxrpc_app.specs.declared.input.InputFault.TheVariants as fault
 use Rattle.muxrpc_app.specs.declared.status.Status.{Status}
 use Rattle.muxrpc_app.specs.declared.status.Status.TheVariants as status
-
--- the meaning of a source: what it holds, its count of faults, and whether its last read answered 0
-pub record SourceState : Type 0 where
-  pub held : Option (List ℕ)
-  pub faults : ℕ
-  pub ended : Bool
-
--- the meaning of a sink: what it was given, its count of faults, and whether its last call was a flush that answered Ok
-pub record SinkState : Type 0 where
-  pub given : Option (List ℕ)
-  pub faults : ℕ
-  pub flushed : Bool
 
 -- the input was read to its end, within the limit, and is a script
 pub record ReadScript (old new : SourceState) : Type 0 where
@@ -73,7 +63,7 @@ Replayed old new before after status.Done = ReplayDone old new before after
 Replayed old new before after status.Usage = ⊥
 Replayed old new before after (status.ScriptRefused line number) = ScriptBroken old new before after line number
 Replayed old new before after (status.StreamRefused place reason) = ⊥
-Replayed old new before after status.ReadFault = Rose old.faults new.faults × ReadWithin old.held new.held × (after.given ≡ before.given)
+Replayed old new before after status.ReadFault = Rose old.faults new.faults × ReadWithin old.held new.held × (new.ended ≡ false) × (after.given ≡ before.given)
 Replayed old new before after status.WriteFault = WritingFailed old new before after
 Replayed old new before after status.LinkFault = ⊥
 Replayed old new before after status.OutOfMemory = after.given ≡ before.given
@@ -85,3 +75,20 @@ abbrev pub input_status : InputFault → Status
 input_status fault.Failed = status.ReadFault
 input_status fault.TooLong = status.TooLong
 input_status fault.OutOfMemory = status.OutOfMemory
+
+-- what the words made of the input and the output, where the run ended with this status
+pub record Ran (words : List (List ℕ)) (old new : SourceState) (before after : SinkState) (s : Status) : Type 0 where
+  pub usage : (s ≡ status.Usage) ↔ (is_replay words ≡ false)
+  pub untouched : s ≡ status.Usage → (new ≡ old) × (after ≡ before)
+  pub outcome : is_replay words ≡ true → Replayed old new before after s
+
+-- the line of a status was written; or a write failed, and then a front of it was
+abbrev pub Tells : (before after : SinkState) → Status → Type 0
+Tells before after s = (after.given ≡ append_known before.given (status_text s)) ⊎ (Rose before.faults after.faults × WroteFront before.given after.given (status_text s))
+
+-- the words ran and ended with a status, whose line was written and whose code this is
+pub record Exits (words : List (List ℕ)) (old new : SourceState) (before after told_before told_after : SinkState) (code : ℕ) : Type 0 where
+  pub ended : Status
+  pub ran : Ran words old new before after ended
+  pub told : Tells told_before told_after ended
+  pub code_is : code ≡ status_code ended

@@ -1,8 +1,7 @@
 -- Exit statuses, and the lines of standard error.
 use Rattle.std.specs.Prelude.{ℕ, List, [], ◌∷◌, ◌++◌, codes}
+use Rattle.std.specs.List.{flat_map}
 use Rattle.std.specs.Fmt.{decimal}
-use Rattle.wire_base.specs.declared.place.Place.{Place}
-use Rattle.wire_base.specs.declared.reason.Reason.{Reason}
 use Rattle.wire_base.specs.Numbers.{reason_number, reason_name}
 use Rattle.muxrpc_app.specs.declared.status.Status.{Status}
 use Rattle.muxrpc_app.specs.declared.status.Status.TheVariants as status
@@ -19,30 +18,25 @@ status_code status.OutOfMemory = 7
 status_code status.TooLong = 8
 status_code status.LinkEnded = 9
 
-abbrev pub script_fault_text : (line number : ℕ) → List ℕ
-script_fault_text line number = codes "line " ++ decimal line ++ codes ": " ++ decimal number
+-- what is told of a status, in parts
+abbrev pub status_parts : Status → List (List ℕ)
+status_parts status.Done = []
+status_parts status.Usage = codes "usage" ∷ []
+status_parts (status.ScriptRefused line number) = codes "line " ∷ decimal line ∷ codes ": " ∷ decimal number ∷ []
+status_parts (status.StreamRefused place reason) =
+    codes "refused at " ∷ decimal place.0 ∷ codes ": " ∷ decimal (reason_number reason) ∷ codes " " ∷ reason_name reason ∷ []
+status_parts status.ReadFault = codes "read fault" ∷ []
+status_parts status.WriteFault = codes "write fault" ∷ []
+status_parts status.LinkFault = codes "link fault" ∷ []
+status_parts status.OutOfMemory = codes "out of memory" ∷ []
+status_parts status.TooLong = codes "too long" ∷ []
+status_parts status.LinkEnded = codes "link ended" ∷ []
 
-abbrev pub stream_fault_text : Place → Reason → List ℕ
-stream_fault_text place reason = codes "refused at " ++ decimal place.0 ++ codes ": " ++ decimal (reason_number reason) ++ codes " " ++ reason_name reason
-
--- what is told of a status
-abbrev pub status_words : Status → List ℕ
-status_words status.Done = []
-status_words status.Usage = codes "usage"
-status_words (status.ScriptRefused line number) = script_fault_text line number
-status_words (status.StreamRefused place reason) = stream_fault_text place reason
-status_words status.ReadFault = codes "read fault"
-status_words status.WriteFault = codes "write fault"
-status_words status.LinkFault = codes "link fault"
-status_words status.OutOfMemory = codes "out of memory"
-status_words status.TooLong = codes "too long"
-status_words status.LinkEnded = codes "link ended"
-
--- words after the program's name, as a line
-abbrev pub told : List ℕ → List ℕ
-told words = codes "muxrpc: " ++ words ++ 10 ∷ []
+-- parts behind the program's name, as a line
+abbrev pub told : List (List ℕ) → List ℕ
+told parts = flat_map (λ part. part) (codes "muxrpc: " ∷ parts ++ codes "\n" ∷ [])
 
 -- the line of a status; there is none where all went well
 abbrev pub status_text : Status → List ℕ
 status_text status.Done = []
-status_text s = told (status_words s)
+status_text s = told (status_parts s)

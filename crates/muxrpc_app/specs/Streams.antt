@@ -1,5 +1,5 @@
 -- What was read from a source and written to a sink.
-use Rattle.std.specs.Prelude.{◌≡◌, ◌≤◌, ℕ, ◌+◌, List, [], length, take, Option, IfSome}
+use Rattle.std.specs.Prelude.{◌≡◌, ◌≤◌, ℕ, ◌+◌, List, [], length, take, Bool, false, Option, IfSome}
 use Rattle.std.specs.Io.KnownBytes.{prepend_known, append_known}
 use Rattle.wire_base.specs.Causes.{Rose}
 use Rattle.muxrpc_app.specs.declared.input.InputFault.{InputFault}
@@ -25,11 +25,23 @@ ReadWithin old new = (bytes : List ℕ) × WasRead old new bytes × (length byte
 abbrev pub ReadPast : (old new : Option (List ℕ)) → Type 0
 ReadPast old new = (bytes : List ℕ) × WasRead old new bytes × (length bytes ≡ most_input + 1)
 
--- why reading an input failed, from what the source held and its count of faults before and after
-abbrev pub InputFails : (old new : Option (List ℕ)) → (before now : ℕ) → InputFault → Type 0
-InputFails old new before now fault.Failed = Rose before now × ReadWithin old new
-InputFails old new before now fault.TooLong = ReadPast old new
-InputFails old new before now fault.OutOfMemory = Unit {0}
+-- a source: what it holds, its count of faults, and whether its last read answered 0
+pub record SourceState : Type 0 where
+  pub held : Option (List ℕ)
+  pub faults : ℕ
+  pub ended : Bool
+
+-- a sink: what it was given, its count of faults, and whether its last call was a flush that answered Ok
+pub record SinkState : Type 0 where
+  pub given : Option (List ℕ)
+  pub faults : ℕ
+  pub flushed : Bool
+
+-- why reading an input failed
+abbrev pub InputFails : (old new : SourceState) → InputFault → Type 0
+InputFails old new fault.Failed = Rose old.faults new.faults × ReadWithin old.held new.held × (new.ended ≡ false)
+InputFails old new fault.TooLong = ReadPast old.held new.held
+InputFails old new fault.OutOfMemory = Unit {0}
 
 -- a front of these bytes was written
 abbrev pub WroteFront : (old new : Option (List ℕ)) → List ℕ → Type 0

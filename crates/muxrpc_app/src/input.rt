@@ -26,7 +26,9 @@ pub(crate) fn read_input<S: Source>(alloc: Global, source: &mut S) -> Result<Vec
     ensures within { IfOk result (λ v. length v.items ≤ most_input) }
     ensures ended { OnOk result (S.ended source.new ≡ true) }
     ensures at_end { OnOk result (HoldsNothing (S.held source.new)) }
-    ensures fails { IfErr result (InputFails (S.held source.old) (S.held source.new) (S.faults source.old) (S.faults source.new)) }
+    ensures fails { IfErr result (InputFails
+        (record { held = S.held source.old; faults = S.faults source.old; ended = S.ended source.old })
+        (record { held = S.held source.new; faults = S.faults source.new; ended = S.ended source.new })) }
     ensures later { S.faults source.old ≤ S.faults source.new }
 {
     let mut bytes = Vec::new(alloc);

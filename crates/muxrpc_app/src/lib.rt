@@ -1,13 +1,19 @@
 //! What the program does, over the words, the input and the output that it is given.
 #![tactic(auto)]
 
+mod command;
 mod input;
 mod output;
 mod replay;
+#[cfg(test)]
+mod rows;
+mod standard_error;
 mod status;
 #[cfg(test)]
 mod tests;
 
+pub use command::run_command;
 pub use input::InputFault;
 pub use replay::run_plain;
-pub use status::{Status, status_line};
+pub use standard_error::{status_line, tell};
+pub use status::Status;

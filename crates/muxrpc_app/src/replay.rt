@@ -2,7 +2,6 @@
 
 ghost use Rattle.std.specs.Prelude.{◌≡◌, ◌≤◌, ◌↔◌, ◌⊎◌, ℕ, List, length, true, false, Some, IfOk};
 ghost use Rattle.wire_base.specs.Causes.{Rose};
-ghost use Rattle.mux_run.specs.Built.{AreBuilt};
 ghost use Rattle.mux_run.specs.Run.{Terms, terms_of};
 ghost use Rattle.mux_run.specs.declared.steps.Step.{Step};
 ghost use Rattle.transcript.specs.Report.{report_text};
@@ -41,7 +40,6 @@ fn input_status(fault: InputFault) -> Status
 
 /// The report of the run of a script.
 fn report_of(alloc: Global, script: Script) -> Result<Vec<u8>, OutOfMemory>
-    requires { AreBuilt script.steps }
     ensures { IfOk result (λ text. text.items ≡ report_text (terms_of script.version script.nonces) script.steps) }
 {
     let mut text = Vec::new(alloc);

@@ -1,0 +1,44 @@
+//! The whole program over its words and streams.
+
+ghost use Rattle.std.specs.Prelude.{◌≡◌, ◌≤◌, ◌⊎◌, ℕ, List, length, true, Some};
+ghost use Rattle.wire_base.specs.Causes.{Rose};
+ghost use Rattle.mux_run.specs.Run.{Terms};
+ghost use Rattle.mux_run.specs.declared.steps.Step.{Step};
+ghost use Rattle.script.specs.Found.{script_in, reads};
+ghost use Rattle.muxrpc_app.specs.Words.{is_replay};
+ghost use Rattle.muxrpc_app.specs.Streams.{most_input};
+ghost use Rattle.muxrpc_app.specs.Outcome.{Exits};
+
+use crate::replay::run_plain;
+use crate::standard_error::tell;
+use std::alloc::Global;
+use wire_base::{Sink, Source, Text};
+
+/// Does what the words say, writes a line to `errors` where that didn't go well, and answers the exit status of the
+/// process.
+pub fn run_command<S: Source, K: Sink, E: Sink>(
+    alloc: Global,
+    words: &[Text],
+    input: &mut S,
+    output: &mut K,
+    errors: &mut E,
+) -> u8
+    // The exit status is the code of the status with which the words ran, and its line is written.
+    ensures exits { Exits words.now
+        (record { held = S.held input.old; faults = S.faults input.old; ended = S.ended input.old })
+        (record { held = S.held input.new; faults = S.faults input.new; ended = S.ended input.new })
+        (record { given = K.given output.old; faults = K.faults output.old; flushed = K.flushed output.old })
+        (record { given = K.given output.new; faults = K.faults output.new; flushed = K.flushed output.new })
+        (record { given = E.given errors.old; faults = E.faults errors.old; flushed = E.flushed errors.old })
+        (record { given = E.given errors.new; faults = E.faults errors.new; flushed = E.flushed errors.new })
+        result }
+
+    // A script within the limit is replayed, unless a call of the input or the output failed or memory ran out.
+    ensures complete { (bytes : List ℕ) (terms : Terms) (steps : List Step) → is_replay words.now ≡ true →
+        S.held input.old ≡ Some bytes → length bytes ≤ most_input → script_in bytes ≡ reads terms steps →
+        ¬ (Rose (S.faults input.old) (S.faults input.new)) → ¬ (Rose (K.faults output.old) (K.faults output.new)) →
+        (result ≡ 0) ⊎ (result ≡ 7) }
+{
+    let status = run_plain(alloc, words, input, output);
+    tell(&status, errors)
+}
