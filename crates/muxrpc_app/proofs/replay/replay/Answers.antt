@@ -1,6 +1,7 @@
 use Rattle.std.proofs.Common.{◌≡◌, ◌∙◌, ap, sym, take}
 use Rattle.std.specs.Io.KnownBytes.{append_known}
 use Rattle.mux_run.proofs.Safety.{run_safe}
+use Rattle.mux_credit.proofs.Runs.{run_keeps_credit}
 use Rattle.script.specs.Found.{script_in}
 use Rattle.transcript.specs.Report.{report_text}
 use Rattle.mux_run.specs.Run.{terms_of}
@@ -26,6 +27,7 @@ returns-in-Ok-write_output g c =
         written = c.in-Ok-write_output.ensures.written ∙ ap (append_known (g.K.Sink.given c.args.output.now)) text;
         flushed = c.in-Ok-write_output.ensures.flushed;
         safe = run_safe (terms_of s.version s.nonces) s.steps;
+        credit = run_keeps_credit (terms_of s.version s.nonces) s.steps;
       };
     }
 
