@@ -17,7 +17,7 @@ pub record IsFed (w : SideTerms) (x y : RunSide) : Type 0 where
   pub all : runs x ≡ true → is_ready w.version x.items ≡ true → next_frames w x.delivered (length (got x.items)) y ≡ []
   pub short : runs x ≡ true → is_ready w.version x.items ≡ false → x.delivered < greeting_size w
 
--- both ways between two halves
+-- both ways between two sides
 pub record AreFed (w : SideTerms) (x y : RunSide) : Type 0 where
   pub into : IsFed w x y
   pub back : IsFed (turned w) y x
