@@ -24,6 +24,7 @@ fn texts(alloc: Global, words: &[&str]) -> Result<Vec<Text>, OutOfMemory> {
 }
 
 /// A run of the program: its words and input, and the calls of the input, of the output and of standard error that fail.
+#[derive(Clone, Copy)]
 struct Run<'a> {
     words: &'a [&'a str],
     input: &'a str,
@@ -38,7 +39,7 @@ struct Exit {
     errors: Vec<u8>,
 }
 
-fn exit(alloc: Global, run: &Run) -> Result<Exit, Fail> {
+fn exit_of(alloc: Global, run: &Run) -> Result<Exit, Fail> {
     let words = texts(alloc, run.words)?;
     let [reads, writes, tells] = run.failing;
     let mut input = MemSource::new(
@@ -57,7 +58,7 @@ fn exit(alloc: Global, run: &Run) -> Result<Exit, Fail> {
 
 /// Whether a run ends with this code and line, and writes something only where the code is 0.
 fn ends_with(alloc: Global, run: &Run, code: u8, line: &str) -> Result<bool, Fail> {
-    let exit = exit(alloc, run)?;
+    let exit = exit_of(alloc, run)?;
     Ok(
         exit.code == code
             && exit.has_output == (code == 0)
@@ -129,7 +130,7 @@ fn fails_with(alloc: Global, failing: [&[u64]; 3], code: u8, line: &str) -> Resu
         input: EMPTY,
         failing,
     };
-    let exit = exit(alloc, &run)?;
+    let exit = exit_of(alloc, &run)?;
     Ok(exit.code == code && exit.errors.as_slice() == line.as_bytes())
 }
 
