@@ -16,3 +16,6 @@ mod step;
 pub use end::MuxEnd;
 pub use mux_items::{ChannelKey, ChannelView, MuxEvent, Phase, Tally};
 pub use step::MuxStep;
+
+#[cfg(test)]
+mod tests;
