@@ -361,7 +361,7 @@ fn deliveries_of_one_byte_leave_the_same_state(rt: HostRuntime) -> Result<(), Fa
     Ok(())
 }
 
-/// A1 has credit for one byte, A2 for all that is written.
+/// A1 has credit for one byte, A2 for all that is written. A byte that is read brings A1's other one.
 const APART: &str = "script 1
 version 3
 offer A a 8
@@ -372,6 +372,9 @@ accept B A2 102400
 deliver A all
 write A A1 6162
 fill A A2 30000 7a
+deliver B all
+read B A1 1
+deliver A all
 ";
 
 const APART_FRONT: &str = "report 1
@@ -396,13 +399,22 @@ const APART_FRONT: &str = "report 1
  A> ";
 
 const APART_BACK: &str = "
+9 delivered 30021
+ B content A1 1
+ B content A2 20480
+ B content A2 9520
+10 bytes 61
+ B> 940501ffc4029101
+11 delivered 8
+ A credit A1 1
+ A> 94020101c40162
 state
 A running
-A A1 live written 2 emitted 1 taken 0 handed 0
+A A1 live written 2 emitted 2 taken 0 handed 0
 A A2 live written 30000 emitted 30000 taken 0 handed 0
 B running
-B A1 live written 0 emitted 0 taken 0 handed 0
-B A2 live written 0 emitted 0 taken 0 handed 0
+B A1 live written 0 emitted 0 taken 1 handed 1
+B A2 live written 0 emitted 0 taken 30000 handed 0
 end
 ";
 
