@@ -1,4 +1,3 @@
-pub mod Walks
 pub mod Readings
 pub mod Writings
 pub mod ReadsBack

@@ -23,7 +23,8 @@ use Rattle.serde_json.proofs.Numbers.{number_of-decimal, number_of-negative}
 use Rattle.serde_json.proofs.Texts.{print-outline}
 use Rattle.wire_base.specs.Tree.{Tree, nil, flag, whole, words, bytes, items, pairs, Trees, no_items, item, Pairs, no_pairs, pair}
 use Rattle.wire_base.specs.Whole.{IsWhole}
-use Rattle.json_value.specs.Value.{max_nesting, nesting, has_bytes, items_have_bytes, pairs_have_bytes, IsValue, AreValues, ArePairs}
+use Rattle.wire_base.specs.Values.{max_nesting, nesting, holds_bytes, items_hold_bytes, pairs_hold_bytes}
+use Rattle.json_value.specs.Value.{IsValue, AreValues, ArePairs}
 use Rattle.json_value.specs.Normal.{key_cmp, put, norm, norm_items, norm_onto}
 use Rattle.json_value.specs.Json.{data_of, data_items, data_members, json_text}
 use Rattle.json_value.specs.Reading.{IsReading}
@@ -122,7 +123,7 @@ comma true = IsUtf8-are_ascii _ refl
 comma false = IsUtf8-nil
 
 mutual
-  IsUtf8-compact_text : (t : Tree) → IsValue t → has_bytes t ≡ false → IsUtf8 (compact_text (data_of t))
+  IsUtf8-compact_text : (t : Tree) → IsValue t → holds_bytes t ≡ false → IsUtf8 (compact_text (data_of t))
   IsUtf8-compact_text nil h e = IsUtf8-are_ascii _ refl
   IsUtf8-compact_text (flag b) h e = IsUtf8-boolean b
   IsUtf8-compact_text (whole z) h e = IsUtf8-whole z h
@@ -131,16 +132,16 @@ mutual
   IsUtf8-compact_text (items ts) h e = is_utf8_then 91 _ refl (IsUtf8-items_text false ts h e)
   IsUtf8-compact_text (pairs ps) h e = is_utf8_then 123 _ refl (IsUtf8-members_text false ps h e)
 
-  IsUtf8-items_text : (later : Bool) (ts : Trees) → AreValues ts → items_have_bytes ts ≡ false → IsUtf8 (items_text later (data_items ts))
+  IsUtf8-items_text : (later : Bool) (ts : Trees) → AreValues ts → items_hold_bytes ts ≡ false → IsUtf8 (items_text later (data_items ts))
   IsUtf8-items_text later no_items h e = IsUtf8-are_ascii _ refl
   IsUtf8-items_text later (item t ts) h e =
-      let none = or_parts (has_bytes t) (items_have_bytes ts) e in
+      let none = or_parts (holds_bytes t) (items_hold_bytes ts) e in
       IsUtf8-append _ _ (comma later) (IsUtf8-append _ _ (IsUtf8-compact_text t h.0 none.0) (IsUtf8-items_text true ts h.1 none.1))
 
-  IsUtf8-members_text : (later : Bool) (ps : Pairs) → ArePairs ps → pairs_have_bytes ps ≡ false → IsUtf8 (members_text later (data_members ps))
+  IsUtf8-members_text : (later : Bool) (ps : Pairs) → ArePairs ps → pairs_hold_bytes ps ≡ false → IsUtf8 (members_text later (data_members ps))
   IsUtf8-members_text later no_pairs h e = IsUtf8-are_ascii _ refl
   IsUtf8-members_text later (pair k t ps) h e =
-      let none = or_parts (has_bytes t) (pairs_have_bytes ps) e in
+      let none = or_parts (holds_bytes t) (pairs_hold_bytes ps) e in
       let rest = IsUtf8-append _ _ (IsUtf8-compact_text t h.1 none.0) (IsUtf8-members_text true ps h.2 none.1) in
       IsUtf8-append _ _ (comma later) (IsUtf8-append _ _ (IsUtf8-quoted k h.0) (is_utf8_then 58 _ refl rest))
 
@@ -175,7 +176,7 @@ mutual
 
 -- ---- what is written is read
 
-pub IsReading-json_text : (t : Tree) → IsValue t → nesting t ≤ max_nesting → has_bytes t ≡ false → IsReading (json_text t) (norm t)
+pub IsReading-json_text : (t : Tree) → IsValue t → nesting t ≤ max_nesting → holds_bytes t ≡ false → IsReading (json_text t) (norm t)
 IsReading-json_text t v h e =
     let normal = IsValue-norm t v in
     let none = bytes-norm t e in

@@ -3,7 +3,8 @@
 ghost use Rattle.std.specs.Prelude.{◌≡◌, ◌≤◌, ℕ, List, option_map, false};
 ghost use Rattle.wire_base.specs.Tree.{Tree, no_pairs, pairs_of, pair_list_of};
 ghost use Rattle.wire_base.specs.Find.{last_of};
-ghost use Rattle.json_value.specs.Value.{IsValue, max_nesting, nesting, has_bytes};
+ghost use Rattle.wire_base.specs.Values.{max_nesting, nesting, holds_bytes};
+ghost use Rattle.json_value.specs.Value.{IsValue};
 ghost use Rattle.json_value.specs.Normal.{norm, norm_onto, IsNormal};
 ghost use Rattle.json_value.specs.Json.{json_text};
 ghost use Rattle.json_value.specs.Reading.{IsReading, HasNoReading, HasFloat};
@@ -20,7 +21,7 @@ pub fn norms_are_normal()
 
 /// What is written for a value is read as its normal form.
 pub fn written_is_read()
-    ensures { (t : Tree) → IsValue t → nesting t ≤ max_nesting → has_bytes t ≡ false → IsReading (json_text t) (norm t) }
+    ensures { (t : Tree) → IsValue t → nesting t ≤ max_nesting → holds_bytes t ≡ false → IsReading (json_text t) (norm t) }
 {}
 
 /// Bytes are JSON of one value at most, and then neither without a reading nor with a float.

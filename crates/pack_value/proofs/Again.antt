@@ -14,7 +14,8 @@ use Rattle.wire_base.specs.declared.reason.Reason.TheVariants.{TooLong, BadUtf8}
 use Rattle.pack_value.specs.declared.fault.Fault.{Fault}
 use Rattle.pack_value.specs.declared.fault.Fault.TheVariants.{Short, Refused}
 use Rattle.pack_value.specs.Reading.{◌>>=◌, counted, run_at, text_at, key_of, key_at, repeat, pair_at, behind, at_head, value_at, items_at, pairs_at}
-use Rattle.pack_value.specs.Spelling.{IsHead, IsHeaded, SpellsText, Spells, SpellsAll, SpellsPairs, nesting, nestings, pair_nestings, count, pair_count, max_len}
+use Rattle.wire_base.specs.Values.{nesting, nestings, pair_nestings}
+use Rattle.pack_value.specs.Spelling.{IsHead, IsHeaded, SpellsText, Spells, SpellsAll, SpellsPairs, count, pair_count, max_len}
 use Rattle.pack_value.proofs.Levels.{value_at-is}
 use Rattle.pack_value.proofs.Lists.{trees_of-list_of, pairs_of-list_of}
 use Rattle.wire_base.proofs.HeadLemmas.{head_stays}

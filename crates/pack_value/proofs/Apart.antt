@@ -4,7 +4,8 @@ use Rattle.std.proofs.lemmas.List.{take_at}
 use Rattle.std.proofs.lemmas.Bool.{le-leb}
 use Rattle.wire_base.specs.Tree.{Tree, nil, flag, whole, words, bytes, items, pairs, Trees, no_items, item, Pairs, no_pairs, pair}
 use Rattle.wire_base.specs.declared.reason.Reason.{Reason}
-use Rattle.pack_value.specs.Spelling.{IsSpelling, Spells, SpellsAll, SpellsPairs, count, pair_count, max_len, max_nesting, nesting}
+use Rattle.wire_base.specs.Values.{max_nesting, nesting}
+use Rattle.pack_value.specs.Spelling.{IsSpelling, Spells, SpellsAll, SpellsPairs, count, pair_count, max_len}
 use Rattle.pack_value.specs.Tokens.{IsRefused, value}
 use Rattle.pack_value.specs.Answer.{Front, found, short, broken, front_of, IsAtFront, IsUndecided}
 use Rattle.pack_value.specs.Shortest.{IsValue, lengths_fit, item_lengths_fit, pair_lengths_fit, shortest}

@@ -15,7 +15,8 @@ use Rattle.pack_value.specs.declared.fault.Fault.{Fault}
 use Rattle.pack_value.specs.declared.fault.Fault.TheVariants.{Short, Refused}
 use Rattle.wire_base.specs.declared.reason.Reason.TheVariants.{TooLong, BadUtf8}
 use Rattle.pack_value.specs.Reading.{◌>>=◌, Reader, run_at, text_at, key_of, key_at, repeat, pair_at, counted, counted_of, behind, at_head, too_deep, value_at}
-use Rattle.pack_value.specs.Spelling.{IsHead, SpellsText, Spells, SpellsAll, SpellsPairs, nesting, nestings, pair_nestings, count, pair_count, max_len}
+use Rattle.wire_base.specs.Values.{nesting, nestings, pair_nestings}
+use Rattle.pack_value.specs.Spelling.{IsHead, SpellsText, Spells, SpellsAll, SpellsPairs, count, pair_count, max_len}
 use Rattle.pack_value.proofs.Heads.{head-front}
 
 -- the value of a step that did not fail

@@ -9,7 +9,8 @@ use Rattle.pack_value.specs.declared.fault.DecodeError.{DecodeError}
 use Rattle.pack_value.specs.declared.fault.DecodeError.TheVariants as errors
 use Rattle.pack_value.specs.declared.step.Step.{Step}
 use Rattle.pack_value.specs.declared.step.Step.TheVariants as step
-use Rattle.pack_value.specs.Spelling.{IsSpelling, max_nesting}
+use Rattle.wire_base.specs.Values.{max_nesting}
+use Rattle.pack_value.specs.Spelling.{IsSpelling}
 use Rattle.pack_value.specs.Tokens.{value, IsRefused}
 use Rattle.pack_value.specs.Reading.{Fails, value_at}
 use Rattle.pack_value.specs.Answer.{Front, found, short, broken, front_from, front_of, step_of, Answers, IfGot, IfRefused, IfShort, IsAtFront, IsUndecided}

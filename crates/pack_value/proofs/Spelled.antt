@@ -8,7 +8,8 @@ use Rattle.wire_base.specs.declared.token.HeadStep.TheVariants.{Got}
 use Rattle.wire_base.specs.Head.{lettered, head_of}
 use Rattle.wire_base.specs.Shortest.{whole_text, str_head, bin_head, array_head, map_head}
 use Rattle.wire_base.proofs.ShortestLemmas.{head_of-whole_text, head_of-str_head, head_of-bin_head, head_of-array_head, head_of-map_head}
-use Rattle.pack_value.specs.Spelling.{IsHead, IsSpelling, Spells, SpellsText, SpellsAll, SpellsPairs, count, pair_count, max_len, max_nesting, nesting}
+use Rattle.wire_base.specs.Values.{max_nesting, nesting}
+use Rattle.pack_value.specs.Spelling.{IsHead, IsSpelling, Spells, SpellsText, SpellsAll, SpellsPairs, count, pair_count, max_len}
 use Rattle.pack_value.specs.Shortest.{flag_byte, text, shortest, shortest_items, shortest_pairs, IsText, IsValue, AreValues, ArePairs}
 
 small : (n : ℕ) → n ≤ max_len → n < 2 ^ 32

@@ -6,7 +6,8 @@ use Rattle.pack_value.specs.declared.fault.Fault.{Fault}
 use Rattle.pack_value.specs.declared.fault.Fault.TheVariants as fault
 use Rattle.pack_value.specs.declared.step.Step.{Step}
 use Rattle.pack_value.specs.declared.step.Step.TheVariants as step
-use Rattle.pack_value.specs.Spelling.{IsSpelling, max_nesting}
+use Rattle.wire_base.specs.Values.{max_nesting}
+use Rattle.pack_value.specs.Spelling.{IsSpelling}
 use Rattle.pack_value.specs.Tokens.{IsRefused}
 use Rattle.pack_value.specs.Reading.{value_at}
 

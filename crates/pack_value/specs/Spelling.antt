@@ -1,18 +1,15 @@
 -- What bytes spell a value, by the MessagePack specification, "Formats".
-use Rattle.std.specs.Prelude.{◌≡◌, ℕ, ◌+◌, ◌≤◌, max, List, [], ◌++◌, length, IsUtf8}
+use Rattle.std.specs.Prelude.{◌≡◌, ℕ, ◌+◌, ◌≤◌, List, [], ◌++◌, length, IsUtf8}
 use Rattle.wire_base.specs.Tree.{Tree, nil, flag, whole, words, bytes, items, pairs, Trees, no_items, item, Pairs, no_pairs, pair}
 use Rattle.wire_base.specs.declared.token.TokenHead.{TokenHead}
 use Rattle.wire_base.specs.declared.token.TokenHead.TheVariants as token
 pub use Rattle.wire_base.specs.Head.{IsHead}
-use Rattle.pack_value.specs.declared.limits.TheConstants.{MAX_LEN, MAX_NESTING}
+use Rattle.wire_base.specs.Values.{nesting, max_nesting}
+use Rattle.pack_value.specs.declared.limits.TheConstants.{MAX_LEN}
 
 -- The greatest length of a text, of bytes, of an array and of a map.
 abbrev pub max_len : ℕ
 max_len = MAX_LEN
-
--- How deep arrays and maps may nest.
-abbrev pub max_nesting : ℕ
-max_nesting = MAX_NESTING
 
 -- A head, and these bytes behind it.
 pub record IsHeaded (h : TokenHead) (body b : List ℕ) : Type 0 where
@@ -52,25 +49,6 @@ abbrev mutual
   pub SpellsPairs : Pairs → List ℕ → Type 0
   SpellsPairs no_pairs b = b ≡ []
   SpellsPairs (pair k t ps) b = (w x y : List ℕ) × (b ≡ w ++ (x ++ y)) × SpellsText k w × Spells t x × SpellsPairs ps y
-
--- How deep the arrays and maps of a value nest: a scalar 0, an empty array or map 1.
-abbrev mutual
-  pub nesting : Tree → ℕ
-  nesting nil = 0
-  nesting (flag b) = 0
-  nesting (whole z) = 0
-  nesting (words s) = 0
-  nesting (bytes s) = 0
-  nesting (items ts) = nestings ts + 1
-  nesting (pairs ps) = pair_nestings ps + 1
-
-  pub nestings : Trees → ℕ
-  nestings no_items = 0
-  nestings (item t ts) = max (nesting t) (nestings ts)
-
-  pub pair_nestings : Pairs → ℕ
-  pair_nestings no_pairs = 0
-  pair_nestings (pair k t ps) = max (nesting t) (pair_nestings ps)
 
 -- The bytes, all of them, are a spelling of a value that doesn't nest too deep.
 pub record IsSpelling (t : Tree) (b : List ℕ) : Type 0 where

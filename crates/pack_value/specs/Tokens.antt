@@ -8,7 +8,8 @@ use Rattle.wire_base.specs.declared.token.TokenHead.TheVariants as token
 use Rattle.wire_base.specs.declared.token.HeadStep.{HeadStep}
 use Rattle.wire_base.specs.declared.token.HeadStep.TheVariants as step
 use Rattle.wire_base.specs.Head.{Kind, whole_head, str, array, map, refused, kind_of, head_of}
-use Rattle.pack_value.specs.Spelling.{max_len, max_nesting}
+use Rattle.wire_base.specs.Values.{max_nesting}
+use Rattle.pack_value.specs.Spelling.{max_len}
 
 -- What may stand at a place, a value or a map's key, with so many levels of arrays and maps left.
 pub data Want : Type 0 where

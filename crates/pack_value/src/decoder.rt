@@ -9,12 +9,12 @@ ghost use Rattle.pack_value.specs.Answer.{Answers, IfGot, IfRefused, IfShort, Is
 ghost use Rattle.pack_value.specs.Reading.{Gives, cut_head, nested_key, run_at, text_at, key_at, items_at, pairs_at, repeat, pair_at, behind, value_at};
 
 use crate::fault::{DecodeError, Fault};
-use crate::limits::{MAX_LEN, MAX_NESTING};
+use crate::limits::MAX_LEN;
 use crate::step::Step;
 use std::alloc::Global;
 use wire_base::{
-    Blob, Datum, DatumList, HeadStep, MAX_PLACE, Node, PairList, Place, Reason, Text, TextFault,
-    TokenHead, head,
+    Blob, Datum, DatumList, HeadStep, MAX_NESTING, MAX_PLACE, Node, PairList, Place, Reason, Text,
+    TextFault, TokenHead, head,
 };
 
 fn refused(reason: Reason, left: usize) -> DecodeError

@@ -1,55 +1,17 @@
 ghost use Rattle.std.specs.Prelude.{◌≡◌, ◌≤◌, ◌<◌, ◌++◌, ◌↔◌, length, IsTrue, OnOk, OnErr, IsErrOf, true, false};
 ghost use Rattle.wire_base.specs.Tree.{trees_of, pairs_of};
-ghost use Rattle.wire_base.specs.Appends.{KeepsFront};
+ghost use Rattle.wire_base.specs.Appends.{AppendsFront};
+ghost use Rattle.wire_base.specs.Values.{max_nesting, nesting};
 ghost use Rattle.wire_base.specs.Shortest.{bin_head};
-ghost use Rattle.pack_value.specs.Spelling.{IsSpelling, max_len, max_nesting, nesting, nestings, pair_nestings};
+ghost use Rattle.pack_value.specs.Spelling.{IsSpelling, max_len};
 ghost use Rattle.pack_value.specs.Shortest.{IsText, IsEntry, entry_fits, shortest_entry, IsValue, AreValues, ArePairs, lengths_fit, item_lengths_fit, pair_lengths_fit, shortest, shortest_items, shortest_pairs, text};
 
 use crate::encode_fault::EncodeFault;
-use crate::limits::{MAX_LEN, MAX_NESTING};
+use crate::limits::MAX_LEN;
 use wire_base::{
-    Datum, DatumList, Node, OutOfMemory, PairList, Text, push_array_head, push_bin_head,
-    push_map_head, push_str_head, push_whole,
+    Datum, DatumList, MAX_NESTING, Node, OutOfMemory, PairList, Text, nests_within,
+    push_array_head, push_bin_head, push_map_head, push_str_head, push_whole,
 };
-
-/// Whether arrays and maps nest at most so deep.
-#[cycle(nests)]
-#[tactic(auto, using(crate::proofs::Lists::nests))]
-fn nests_within(value: &Datum, depth: u32) -> bool
-    ensures { IsTrue result ↔ (nesting value.now ≤ depth) }
-{
-    match &value.node {
-        Node::Items(items) => depth > 0 && items_nest_within(items, depth - 1),
-        Node::Pairs(pairs) => depth > 0 && pairs_nest_within(pairs, depth - 1),
-        _ => true,
-    }
-}
-
-#[cycle(nests)]
-#[tactic(auto, using(crate::proofs::Lists::nests))]
-fn items_nest_within(items: &DatumList, depth: u32) -> bool
-    ensures { IsTrue result ↔ (nestings (trees_of items.now) ≤ depth) }
-{
-    for item in items.as_slice() {
-        if !nests_within(item, depth) {
-            return false;
-        }
-    }
-    true
-}
-
-#[cycle(nests)]
-#[tactic(auto, using(crate::proofs::Lists::nests))]
-fn pairs_nest_within(pairs: &PairList, depth: u32) -> bool
-    ensures { IsTrue result ↔ (pair_nestings (pairs_of pairs.now) ≤ depth) }
-{
-    for pair in pairs.as_slice() {
-        if !nests_within(&pair.1, depth) {
-            return false;
-        }
-    }
-    true
-}
 
 fn text_fits(text: &Text) -> bool
     ensures exact { IsTrue result ↔ (length text.now ≤ max_len) }
@@ -116,22 +78,22 @@ fn pair_fits(pair: &(Text, Datum)) -> bool
     text_fits(&pair.0) && fits(&pair.1)
 }
 
-#[tactic(auto, using(wire_base::proofs::Keeps::keeps))]
+#[tactic(auto, using(wire_base::proofs::AppendsLemmas::appends))]
 fn put_text(s: &[u8], out: &mut Vec<u8>) -> Result<(), OutOfMemory>
     requires { length s.now ≤ max_len }
     ensures ok { OnOk result (out.new.items ≡ out.old.items ++ text s.now) }
-    ensures err { OnErr result (KeepsFront out.old.items out.new.items) }
+    ensures err { OnErr result (AppendsFront out.old.items out.new.items (text s.now)) }
 {
     push_str_head(out, s.len() as u32)?;
     out.extend_from_slice(s)?;
     Ok(())
 }
 
-#[tactic(auto, using(wire_base::proofs::Keeps::keeps))]
+#[tactic(auto, using(wire_base::proofs::AppendsLemmas::appends))]
 fn put_bytes(s: &[u8], out: &mut Vec<u8>) -> Result<(), OutOfMemory>
     requires { length s.now ≤ max_len }
     ensures ok { OnOk result (out.new.items ≡ out.old.items ++ (bin_head (length s.now) ++ s.now)) }
-    ensures err { OnErr result (KeepsFront out.old.items out.new.items) }
+    ensures err { OnErr result (AppendsFront out.old.items out.new.items (bin_head (length s.now) ++ s.now)) }
 {
     push_bin_head(out, s.len() as u32)?;
     out.extend_from_slice(s)?;
@@ -143,7 +105,7 @@ fn put_bytes(s: &[u8], out: &mut Vec<u8>) -> Result<(), OutOfMemory>
 fn put_items(items: &DatumList, out: &mut Vec<u8>) -> Result<(), OutOfMemory>
     requires { item_lengths_fit (trees_of items.now) ≡ true }
     ensures ok { OnOk result (out.new.items ≡ out.old.items ++ shortest_items (trees_of items.now)) }
-    ensures err { OnErr result (KeepsFront out.old.items out.new.items) }
+    ensures err { OnErr result (AppendsFront out.old.items out.new.items (shortest_items (trees_of items.now))) }
 {
     for item in items.as_slice() {
         put_value(item, out)?;
@@ -156,7 +118,7 @@ fn put_items(items: &DatumList, out: &mut Vec<u8>) -> Result<(), OutOfMemory>
 fn put_pairs(pairs: &PairList, out: &mut Vec<u8>) -> Result<(), OutOfMemory>
     requires { pair_lengths_fit (pairs_of pairs.now) ≡ true }
     ensures ok { OnOk result (out.new.items ≡ out.old.items ++ shortest_pairs (pairs_of pairs.now)) }
-    ensures err { OnErr result (KeepsFront out.old.items out.new.items) }
+    ensures err { OnErr result (AppendsFront out.old.items out.new.items (shortest_pairs (pairs_of pairs.now))) }
 {
     for pair in pairs.as_slice() {
         put_pair(pair, out)?;
@@ -169,7 +131,7 @@ fn put_pairs(pairs: &PairList, out: &mut Vec<u8>) -> Result<(), OutOfMemory>
 fn put_pair(pair: &(Text, Datum), out: &mut Vec<u8>) -> Result<(), OutOfMemory>
     requires { entry_fits pair.now ≡ true }
     ensures ok { OnOk result (out.new.items ≡ out.old.items ++ shortest_entry pair.now) }
-    ensures err { OnErr result (KeepsFront out.old.items out.new.items) }
+    ensures err { OnErr result (AppendsFront out.old.items out.new.items (shortest_entry pair.now)) }
 {
     put_text(pair.0.as_str().as_bytes(), out)?;
     put_value(&pair.1, out)?;
@@ -181,7 +143,7 @@ fn put_pair(pair: &(Text, Datum), out: &mut Vec<u8>) -> Result<(), OutOfMemory>
 fn put_value(value: &Datum, out: &mut Vec<u8>) -> Result<(), OutOfMemory>
     requires { lengths_fit value.now ≡ true }
     ensures ok { OnOk result (out.new.items ≡ out.old.items ++ shortest value.now) }
-    ensures err { OnErr result (KeepsFront out.old.items out.new.items) }
+    ensures err { OnErr result (AppendsFront out.old.items out.new.items (shortest value.now)) }
 {
     match &value.node {
         Node::Nil => out.push(0xc0)?,
@@ -202,6 +164,7 @@ fn put_value(value: &Datum, out: &mut Vec<u8>) -> Result<(), OutOfMemory>
 }
 
 /// Appends the shortest spelling of a value.
+#[tactic(auto, using(wire_base::proofs::AppendsLemmas::front_is_kept))]
 pub fn encode(value: &Datum, out: &mut Vec<u8>) -> Result<(), EncodeFault>
     ensures ok { OnOk result (out.new.items ≡ out.old.items ++ shortest value.now) }
     ensures spelled { OnOk result (IsSpelling value.now (shortest value.now)) }

@@ -3,7 +3,8 @@
 ghost use Rattle.std.specs.Prelude.{◌≡◌, ◌≤◌, ◌++◌, ◌↔◌, ℕ, List, length, true};
 ghost use Rattle.wire_base.specs.Tree.{Tree};
 ghost use Rattle.wire_base.specs.declared.reason.Reason.{Reason};
-ghost use Rattle.pack_value.specs.Spelling.{IsSpelling, max_nesting, nesting};
+ghost use Rattle.wire_base.specs.Values.{max_nesting, nesting};
+ghost use Rattle.pack_value.specs.Spelling.{IsSpelling};
 ghost use Rattle.pack_value.specs.Tokens.{IsRefused};
 ghost use Rattle.pack_value.specs.Answer.{IsAtFront, IsUndecided, front_of, found, short, broken};
 ghost use Rattle.pack_value.specs.Shortest.{IsValue, lengths_fit, shortest};

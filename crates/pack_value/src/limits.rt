@@ -1,7 +1,4 @@
-//! The limits that both directions keep.
+//! A limit that both directions keep.
 
 /// The greatest length of a text, of bytes, of an array and of a map.
 pub const MAX_LEN: u32 = 16_777_216;
-
-/// How deep arrays and maps may nest.
-pub const MAX_NESTING: u32 = 127;

@@ -10,7 +10,7 @@ use Rattle.wire_base.specs.declared.refusal.Refusal.{Refusal}
 use Rattle.wire_base.specs.declared.refusal.Refusal.TheVariants as refusal
 use Rattle.wire_base.specs.Tree.{Tree, trees_of}
 use Rattle.rpc_items.specs.declared.calls.Answer.TheVariants as answer
-use Rattle.rpc_items.specs.Values.{nesting, holds_bytes, items_hold_bytes}
+use Rattle.wire_base.specs.Values.{nesting, holds_bytes, items_hold_bytes}
 use Rattle.rpc_items.specs.Writing.{message_value}
 use Rattle.rpc_items.specs.Items.{RpcItem, Did, Respond, ended, is_running}
 use Rattle.rpc_items.specs.Produced.{Produced, produced, produced_by, produced_at, last_token}

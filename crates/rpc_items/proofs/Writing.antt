@@ -6,7 +6,7 @@ use Rattle.wire_base.specs.declared.refusal.Refusal.TheVariants as refusal
 use Rattle.wire_base.specs.declared.text.Id.{Id}
 use Rattle.wire_base.specs.declared.text.Id.TheVariants.{Number, Name}
 use Rattle.rpc_items.specs.declared.messages.Message.TheVariants as message
-use Rattle.rpc_items.specs.Values.{nesting, holds_bytes}
+use Rattle.wire_base.specs.Values.{nesting, holds_bytes}
 use Rattle.rpc_items.specs.Writing.{message_value}
 use Rattle.rpc_items.specs.Meanings.{Meaning, Serves, Turns, Calls, Mistakes, Unknown}
 use Rattle.rpc_items.specs.Items.{RpcItem}

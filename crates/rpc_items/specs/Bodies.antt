@@ -5,7 +5,7 @@ use Rattle.wire_base.specs.Tree.{Tree, trees_of}
 use Rattle.wire_base.specs.declared.refusal.Refusal.{Refusal}
 use Rattle.wire_base.specs.declared.refusal.Refusal.TheVariants as refusal
 use Rattle.rpc_items.specs.declared.messages.Message.{Message}
-use Rattle.rpc_items.specs.Values.{nesting, holds_bytes, items_hold_bytes}
+use Rattle.wire_base.specs.Values.{nesting, holds_bytes, items_hold_bytes}
 use Rattle.rpc_items.specs.Writing.{message_value}
 
 -- how a connection writes messages: whether in JSON, which has no bytes, and in how many bytes a value;

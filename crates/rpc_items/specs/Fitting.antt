@@ -6,7 +6,7 @@ use Rattle.wire_base.specs.Tree as tree
 use Rattle.rpc_items.specs.declared.messages.Message.{Message}
 use Rattle.rpc_items.specs.declared.messages.Message.TheVariants as message
 use Rattle.rpc_items.specs.Ids.{id_in, id_value}
-use Rattle.rpc_items.specs.Values.{nesting, holds_bytes}
+use Rattle.wire_base.specs.Values.{nesting, holds_bytes}
 use Rattle.rpc_items.specs.Writing.{message_value}
 use Rattle.rpc_items.specs.Produced.{Produced}
 use Rattle.rpc_items.specs.Pages.{page_after, are_left, page_value}

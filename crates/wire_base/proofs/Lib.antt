@@ -1,6 +1,7 @@
 pub mod Finds
 pub mod Utf8
 pub mod Back
+pub mod Walks
 pub mod Moved
 pub mod HeadLemmas
 pub mod ShortestLemmas

@@ -1,9 +1,16 @@
 -- What an append leaves that memory may cut off.
-use Rattle.std.specs.Prelude.{◌≡◌, ℕ, List, ◌++◌, length, take}
+use Rattle.std.specs.Prelude.{◌≡◌, List, ℕ, ◌++◌, length, take}
 
--- the old bytes, and behind them a front of the text, which may be none of it or all
-abbrev pub AppendsFront : List ℕ → List ℕ → List ℕ → Type 0
-AppendsFront old new text = (k : ℕ) × (new ≡ old ++ take k text)
+-- behind the old bytes stands the text without its rest
+pub record AppendsTo (rest old new text : List ℕ) : Type 0 where
+  pub front : List ℕ
+  pub text_is : text ≡ front ++ rest
+  pub new_is : new ≡ old ++ front
+
+-- behind the old bytes stands a front of the text, which may be none of it or all
+pub record AppendsFront (old new text : List ℕ) : Type 0 where
+  pub rest : List ℕ
+  pub appended : AppendsTo rest old new text
 
 -- what stood there stands in front
 abbrev pub KeepsFront : List ℕ → List ℕ → Type 0

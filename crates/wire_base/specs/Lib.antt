@@ -3,6 +3,7 @@ pub mod Codes
 pub mod View
 pub mod Falls
 pub mod Find
+pub mod Values
 pub mod Whole
 pub mod Head
 pub mod Causes

@@ -21,6 +21,7 @@ mod streams;
 mod text;
 mod token;
 mod tokens;
+mod values;
 mod whole;
 
 pub use blob::Blob;
@@ -31,7 +32,8 @@ pub use heads::head;
 pub use in_memory::{Calls, MemSink, MemSource};
 pub use laws::{heads_stay, shortest_heads_are_heads};
 pub use limits::{
-    COUNT_LIMIT, FRAME_BOUND, MAX_FED, MAX_PAYLOAD, MAX_PLACE, MAX_PLAIN_PAYLOAD, PLAIN_ID_LIMIT,
+    COUNT_LIMIT, FRAME_BOUND, MAX_FED, MAX_NESTING, MAX_PAYLOAD, MAX_PLACE, MAX_PLAIN_PAYLOAD,
+    PLAIN_ID_LIMIT,
 };
 pub use out_of_memory::OutOfMemory;
 pub use place::Place;
@@ -49,6 +51,7 @@ pub use token::{HeadStep, TokenHead};
 pub use tokens::{
     array_head, array_of, bin_head, bin_of, breaks, count, number, open_array, str_head,
 };
+pub use values::{holds_bytes, nests_within};
 pub use whole::Whole;
 
 #[cfg(test)]

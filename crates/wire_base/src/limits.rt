@@ -20,3 +20,6 @@ pub const MAX_PLACE: u64 = 0x8000_0000_0000_0000;
 
 /// At most so many bytes are fed from one stream.
 pub const MAX_FED: u64 = 0x4000_0000_0000_0000;
+
+/// Arrays and maps stand in one another at most so deep.
+pub const MAX_NESTING: u32 = 127;

@@ -1,6 +1,6 @@
 use Rattle.std.proofs.Common.{Ok, Err, sym, ap}
 use Rattle.pack_value.specs.Answer.{step_of}
-use Rattle.pack_value.specs.Spelling.{max_nesting}
+use Rattle.wire_base.specs.Values.{max_nesting}
 use Rattle.pack_value.specs.Reading.{value_at}
 use Rattle.pack_value.specs.declared.fault.Fault.TheVariants.{Short, Refused}
 use Rattle.pack_value.proofs.Fronts.{rest_within, left_within, front_is, failed}

@@ -1,4 +1,4 @@
-use Rattle.std.proofs.Common.{◌≡◌, ◌+◌, ◌*◌, true, take}
+use Rattle.std.proofs.Common.{◌≡◌, ◌+◌, ◌*◌, drop}
 use Rattle.wire_base.specs.Tree.{trees_of, pairs_of, weight, list_size, pair_size}
 use Rattle.pack_value.specs.Shortest.{item_lengths_fit, pair_lengths_fit, AreValues, ArePairs}
 use Rattle.pack_value.proofs.encoder.+fit.Given as goal
@@ -17,14 +17,12 @@ decreases-pair_fits l = 2 * weight l.pair.now.1 + 1
 
 abbrev pub invariant-items_fit-loop-item : goal.invariant-items_fit-loop-item
 invariant-items_fit-loop-item l = record {
-  same : l.item-items ≡ l.items;
-  fit : item_lengths_fit (trees_of (take l.item-index l.item-items)) ≡ true;
-  values : AreValues (trees_of (take l.item-index l.item-items));
+  exact : item_lengths_fit (trees_of l.items) ≡ item_lengths_fit (trees_of (drop l.item-index l.item-items));
+  valid : AreValues (trees_of (drop l.item-index l.item-items)) → AreValues (trees_of l.items);
 }
 
 abbrev pub invariant-pairs_fit-loop-pair : goal.invariant-pairs_fit-loop-pair
 invariant-pairs_fit-loop-pair l = record {
-  same : l.pair-items ≡ l.pairs;
-  fit : pair_lengths_fit (pairs_of (take l.pair-index l.pair-items)) ≡ true;
-  values : ArePairs (pairs_of (take l.pair-index l.pair-items));
+  exact : pair_lengths_fit (pairs_of l.pairs) ≡ pair_lengths_fit (pairs_of (drop l.pair-index l.pair-items));
+  valid : ArePairs (pairs_of (drop l.pair-index l.pair-items)) → ArePairs (pairs_of l.pairs);
 }

@@ -1,7 +1,7 @@
 use Rattle.std.proofs.Common.{◌↔◌, ◌≤◌, ◌+◌, ◌*◌, drop}
 use Rattle.wire_base.specs.Tree.{trees_of, pairs_of}
-use Rattle.json_value.specs.Value.{nestings, pair_nestings}
-use Rattle.json_value.proofs.writer.+nests.Given as goal
+use Rattle.wire_base.specs.Values.{nestings, pair_nestings}
+use Rattle.wire_base.proofs.values.+nests.Given as goal
 
 abbrev pub decreases-nests_within : goal.decreases-nests_within
 decreases-nests_within l = 2 * l.depth + 1
