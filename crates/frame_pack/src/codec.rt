@@ -47,6 +47,7 @@ impl FrameCodec for PackCodec {
         fits(self.version, frame)
     }
 
+    #[tactic(auto, using(wire_base::proofs::AppendsLemmas::front_is_kept))]
     fn encode(&self, frame: &Frame, out: &mut Vec<u8>) -> Result<(), OutOfMemory> {
         let len = out.len();
         if push_frame(self.version, frame, out).is_err() {

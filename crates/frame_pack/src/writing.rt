@@ -4,7 +4,7 @@ ghost use Rattle.frame_pack.specs.Parts.{front_text};
 ghost use Rattle.frame_text.specs.Codec.{is_packed};
 ghost use Rattle.frame_text.specs.Frames.{code_number, fits, origin_text, payload_text, str_text, text};
 ghost use Rattle.std.specs.Prelude.{◌≡◌, ◌<◌, ◌≤◌, ◌^◌, ◌++◌, length, true, OnOk, OnErr};
-ghost use Rattle.wire_base.specs.Appends.{KeepsFront};
+ghost use Rattle.wire_base.specs.Appends.{AppendsFront};
 
 use crate::fits::payload_len;
 use crate::reading::least_elements;
@@ -13,10 +13,10 @@ use wire_base::{
     push_str_head, push_unsigned,
 };
 
-#[tactic(auto, using(wire_base::proofs::Keeps::keeping))]
+#[tactic(auto, using(wire_base::proofs::AppendsLemmas::appends))]
 fn push_origin(origin: Origin, out: &mut Vec<u8>) -> Result<(), OutOfMemory>
     ensures ok { OnOk result (out.new.items ≡ out.old.items ++ origin_text origin) }
-    ensures err { OnErr result (KeepsFront out.old.items out.new.items) }
+    ensures err { OnErr result (AppendsFront out.old.items out.new.items (origin_text origin)) }
 {
     match origin {
         Origin::Sender => out.push(0x01)?,
@@ -26,11 +26,11 @@ fn push_origin(origin: Origin, out: &mut Vec<u8>) -> Result<(), OutOfMemory>
     Ok(())
 }
 
-#[tactic(auto, using(wire_base::proofs::Keeps::keeping))]
+#[tactic(auto, using(wire_base::proofs::AppendsLemmas::appends))]
 fn push_str(text: &Text, out: &mut Vec<u8>) -> Result<(), OutOfMemory>
     requires { length text.now < 2 ^ 32 }
     ensures ok { OnOk result (out.new.items ≡ out.old.items ++ str_text text.now) }
-    ensures err { OnErr result (KeepsFront out.old.items out.new.items) }
+    ensures err { OnErr result (AppendsFront out.old.items out.new.items (str_text text.now)) }
 {
     let bytes = text.as_str().as_bytes();
     push_str_head(out, bytes.len() as u32)?;
@@ -38,11 +38,11 @@ fn push_str(text: &Text, out: &mut Vec<u8>) -> Result<(), OutOfMemory>
     Ok(())
 }
 
-#[tactic(auto, using(wire_base::proofs::Keeps::keeping))]
+#[tactic(auto, using(wire_base::proofs::AppendsLemmas::appends))]
 fn push_payload(payload: &Payload, out: &mut Vec<u8>) -> Result<(), OutOfMemory>
     requires { length (payload_text payload.now) < 2 ^ 32 }
     ensures ok { OnOk result (out.new.items ≡ out.old.items ++ payload_text payload.now) }
-    ensures err { OnErr result (KeepsFront out.old.items out.new.items) }
+    ensures err { OnErr result (AppendsFront out.old.items out.new.items (payload_text payload.now)) }
 {
     match payload {
         Payload::Offer(name, None) => {
@@ -72,10 +72,10 @@ fn push_payload(payload: &Payload, out: &mut Vec<u8>) -> Result<(), OutOfMemory>
 }
 
 /// All of a frame but its payload.
-#[tactic(auto, using(wire_base::proofs::Keeps::keeping))]
+#[tactic(auto, using(wire_base::proofs::AppendsLemmas::appends))]
 fn push_front(elements: u32, frame: &Frame, out: &mut Vec<u8>) -> Result<(), OutOfMemory>
     ensures ok { OnOk result (out.new.items ≡ out.old.items ++ front_text elements frame.now) }
-    ensures err { OnErr result (KeepsFront out.old.items out.new.items) }
+    ensures err { OnErr result (AppendsFront out.old.items out.new.items (front_text elements frame.now)) }
 {
     push_array_head(out, elements)?;
     push_unsigned(out, frame.code.number().into())?;
@@ -90,7 +90,7 @@ pub fn push_frame(version: Version, frame: &Frame, out: &mut Vec<u8>) -> Result<
     requires packed { is_packed version ≡ true }
     requires fits { fits version frame.now ≡ true }
     ensures ok { OnOk result (out.new.items ≡ out.old.items ++ text version frame.now) }
-    ensures err { OnErr result (KeepsFront out.old.items out.new.items) }
+    ensures err { OnErr result (AppendsFront out.old.items out.new.items (text version frame.now)) }
 {
     let elements = least_elements(version);
     let len = payload_len(&frame.payload);

@@ -42,6 +42,10 @@ appends_second old mid new text more e h =
     let left : AppendsTo (more ++ []) old mid (text ++ more) = record { front = text; text_is = ap (λ (s : List ℕ). text ++ s) (sym (append-nil more)); new_is = e } in
     to_cut old mid new (text ++ more) more [] left h
 
+-- both are there
+pub appends_both : (old mid new text more : List ℕ) → mid ≡ old ++ text → new ≡ mid ++ more → new ≡ old ++ (text ++ more)
+appends_both old mid new text more e f = f ∙ ap (λ (s : List ℕ). s ++ more) e ∙ append_assoc old text more
+
 -- what stood there stands in front
 pub front_is_kept : (old new text : List ℕ) → AppendsFront old new text → take (length old) new ≡ old
 front_is_kept old new text h = ap (λ (s : List ℕ). take (length old) s) h.appended.new_is ∙ take-append_seam old h.appended.front

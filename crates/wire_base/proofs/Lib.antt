@@ -12,4 +12,3 @@ pub mod TokenSteady
 pub mod TokenAgain
 pub mod Fronts
 pub mod Refusals
-pub mod Keeps

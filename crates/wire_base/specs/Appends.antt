@@ -1,5 +1,5 @@
 -- What an append leaves that memory may cut off.
-use Rattle.std.specs.Prelude.{◌≡◌, List, ℕ, ◌++◌, length, take}
+use Rattle.std.specs.Prelude.{◌≡◌, List, ℕ, ◌++◌}
 
 -- behind the old bytes stands the text without its rest
 pub record AppendsTo (rest old new text : List ℕ) : Type 0 where
@@ -11,7 +11,3 @@ pub record AppendsTo (rest old new text : List ℕ) : Type 0 where
 pub record AppendsFront (old new text : List ℕ) : Type 0 where
   pub rest : List ℕ
   pub appended : AppendsTo rest old new text
-
--- what stood there stands in front
-abbrev pub KeepsFront : List ℕ → List ℕ → Type 0
-KeepsFront old new = take (length old) new ≡ old
