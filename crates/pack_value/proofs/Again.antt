@@ -1,5 +1,5 @@
 -- What is spelled so is read.
-use Rattle.std.proofs.Common.{◌≡◌, ℕ, zero, suc, ◌≤◌, Bool, true, false, cond, ltb, List, [], ◌++◌, length, take, drop, Result, Ok, Err, refl, sym, ap, ◌∙◌, append_assoc, length-append, arith, add-one}
+use Rattle.std.proofs.Common.{◌≡◌, ℕ, zero, suc, ◌≤◌, Bool, true, false, cond, ltb, List, [], ◌++◌, length, take, drop, Ok, Err, refl, sym, ap, ◌∙◌, append_assoc, length-append, arith, add-one}
 use Rattle.std.specs.Prelude.{IsUtf8}
 use Rattle.std.specs.Str.{is_utf8}
 use Rattle.std.proofs.lemmas.Str.{is_utf8-from_IsUtf8}
@@ -11,9 +11,9 @@ use Rattle.wire_base.specs.declared.token.TokenHead.TheVariants as token
 use Rattle.wire_base.specs.declared.token.HeadStep.TheVariants as step
 use Rattle.wire_base.specs.Head.{head_of}
 use Rattle.wire_base.specs.declared.reason.Reason.TheVariants.{TooLong, BadUtf8}
-use Rattle.pack_value.specs.declared.fault.Fault.{Fault}
-use Rattle.pack_value.specs.declared.fault.Fault.TheVariants.{Short, Refused}
-use Rattle.pack_value.specs.Reading.{◌>>=◌, counted, run_at, text_at, key_of, key_at, repeat, pair_at, behind, at_head, value_at, items_at, pairs_at}
+use Rattle.wire_base.specs.declared.reading.Fault.TheVariants.{Ends, Breaks}
+use Rattle.wire_base.specs.Tokens.{Reading, follow, done, bytes_at}
+use Rattle.pack_value.specs.Reading.{counted, run_at, text_at, key_of, key_at, repeat, pair_at, behind, at_head, value_at, items_at, pairs_at}
 use Rattle.wire_base.specs.Values.{nesting, nestings, pair_nestings}
 use Rattle.pack_value.specs.Spelling.{IsHead, IsHeaded, SpellsText, Spells, SpellsAll, SpellsPairs, count, pair_count, max_len}
 use Rattle.pack_value.proofs.Levels.{value_at-is}
@@ -28,20 +28,20 @@ chosen : {A : Type 0} (b : Bool) (x y : A) → b ≡ true → cond b x y ≡ x
 chosen true x y e = refl
 chosen false x y e = absurd cc
 
-counted_again : {A : Type 0} (left n : ℕ) (r : Result A Fault) → n ≤ max_len → counted left n r ≡ r
-counted_again left n r le = otherwise (ltb max_len n) (Err (Refused TooLong left)) r (le-ltb max_len n le)
+counted_again : {A : Type 0} (left n : ℕ) (r : Reading A) → n ≤ max_len → counted left n r ≡ r
+counted_again left n r le = otherwise (ltb max_len n) (Err (Breaks left TooLong)) r (le-ltb max_len n le)
 
 run_again : (left : ℕ) (s rest : List ℕ) → length s ≤ max_len → run_at left (length s) (s ++ rest) ≡ Ok (s, rest)
-unfolding run_at
+unfolding run_at bytes_at
 run_again left s rest le =
-    counted_again left (length s) (cond (ltb (length (s ++ rest)) (length s)) (Err Short) (Ok (take (length s) (s ++ rest), drop (length s) (s ++ rest)))) le
-    ∙ otherwise (ltb (length (s ++ rest)) (length s)) (Err Short) (Ok (take (length s) (s ++ rest), drop (length s) (s ++ rest))) (le-ltb (length (s ++ rest)) (length s) (omega (arith, length-append s rest)))
+    counted_again left (length s) (cond (ltb (length (s ++ rest)) (length s)) (Err Ends) (Ok (take (length s) (s ++ rest), drop (length s) (s ++ rest)))) le
+    ∙ otherwise (ltb (length (s ++ rest)) (length s)) (Err Ends) (Ok (take (length s) (s ++ rest), drop (length s) (s ++ rest))) (le-ltb (length (s ++ rest)) (length s) (omega (arith, length-append s rest)))
     ∙ rw (take_at s rest (length s) refl, drop_at s rest (length s) refl) refl
 
 text_again : (left : ℕ) (s rest : List ℕ) → length s ≤ max_len → IsUtf8 s → text_at left (length s) (s ++ rest) ≡ Ok (s, rest)
 unfolding text_at
 text_again left s rest le u =
-    rw (run_again left s rest le) (chosen (is_utf8 s) (Ok (s, rest)) (Err (Refused BadUtf8 left)) (is_utf8-from_IsUtf8 s u))
+    rw (run_again left s rest le) (chosen (is_utf8 s) (Ok (s, rest)) (Err (Breaks left BadUtf8)) (is_utf8-from_IsUtf8 s u))
 
 record Opened (h : TokenHead) (body b rest : List ℕ) : Type 0 where
   len : ℕ
@@ -87,12 +87,12 @@ mutual
   value_again (items ts) zero b rest p le = absurd (omega (arith, le))
   value_again (items ts) (suc d) b rest p le =
       behind_again (suc d) (token.Array (count ts)) p.0 b rest p.1
-      ∙ ap (λ r. r >>= λ x. Ok (items (trees_of x.0), x.1)) (counted_again (length (b ++ rest)) (count ts) (repeat (value_at d) (count ts) (p.0 ++ rest)) p.2)
+      ∙ ap (λ r. follow r (λ ts. done (items (trees_of ts)))) (counted_again (length (b ++ rest)) (count ts) (repeat (value_at d) (count ts) (p.0 ++ rest)) p.2)
       ∙ rw (items_again ts d p.0 rest p.3 (omega (arith, le)), trees_of-list_of ts) refl
   value_again (pairs ps) zero b rest p le = absurd (omega (arith, le))
   value_again (pairs ps) (suc d) b rest p le =
       behind_again (suc d) (token.Map (pair_count ps)) p.0 b rest p.1
-      ∙ ap (λ r. r >>= λ x. Ok (pairs (pairs_of x.0), x.1)) (counted_again (length (b ++ rest)) (pair_count ps) (repeat (pair_at d (value_at d)) (pair_count ps) (p.0 ++ rest)) p.2)
+      ∙ ap (λ r. follow r (λ ps. done (pairs (pairs_of ps)))) (counted_again (length (b ++ rest)) (pair_count ps) (repeat (pair_at d (value_at d)) (pair_count ps) (p.0 ++ rest)) p.2)
       ∙ rw (pairs_again ps d p.0 rest p.3 (omega (arith, le)), pairs_of-list_of ps) refl
 
   items_again : (ts : Trees) (d : ℕ) (b rest : List ℕ) → SpellsAll ts b → nestings ts ≤ d → repeat (value_at d) (count ts) (b ++ rest) ≡ Ok (list_of ts, rest)

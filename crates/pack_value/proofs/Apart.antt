@@ -7,19 +7,19 @@ use Rattle.wire_base.specs.declared.reason.Reason.{Reason}
 use Rattle.wire_base.specs.Values.{max_nesting, nesting}
 use Rattle.pack_value.specs.Spelling.{IsSpelling, Spells, SpellsAll, SpellsPairs, count, pair_count, max_len}
 use Rattle.pack_value.specs.Tokens.{IsRefused, value}
-use Rattle.pack_value.specs.Answer.{Front, found, short, broken, front_of, IsAtFront, IsUndecided}
+use Rattle.pack_value.specs.Answer.{Front, Whole, Short, Broken, front, IsAtFront, IsUndecided}
 use Rattle.pack_value.specs.Shortest.{IsValue, lengths_fit, item_lengths_fit, pair_lengths_fit, shortest}
 use Rattle.pack_value.proofs.Fronts.{Meets, front_meets, front_if_spelled, front_if_refused, at_front}
 use Rattle.pack_value.proofs.Settled.{breaks_more}
 use Rattle.pack_value.proofs.Spelled.{shortest_is_spelling}
 
-same_found : (t u : Tree) (m n : ℕ) → found t m ≡ found u n → (t ≡ u) × (m ≡ n)
+same_found : (t u : Tree) (m n : ℕ) → Whole t m ≡ Whole u n → (t ≡ u) × (m ≡ n)
 same_found t u m n e = (cc, cc)
 
-same_broken : (k j : ℕ) (r s : Reason) → broken k r ≡ broken j s → (k ≡ j) × (r ≡ s)
+same_broken : (k j : ℕ) (r s : Reason) → ◌≡◌ {A = Front Tree} (Broken k r) (Broken j s) → (k ≡ j) × (r ≡ s)
 same_broken k j r s e = (cc, cc)
 
-pub shortest_read : (t : Tree) (rest : List ℕ) → IsValue t → nesting t ≤ max_nesting → front_of (shortest t ++ rest) ≡ found t (length (shortest t))
+pub shortest_read : (t : Tree) (rest : List ℕ) → IsValue t → nesting t ≤ max_nesting → front (shortest t ++ rest) ≡ Whole t (length (shortest t))
 shortest_read t rest v le =
     front_if_spelled (shortest t ++ rest) t (length (shortest t)) (at_front t (shortest t) rest (shortest t ++ rest) (shortest_is_spelling t v le) refl)
 
@@ -39,22 +39,22 @@ one all k j r s p q = same_broken k j r s (sym (front_if_refused all k r p) ∙ 
 
 pub unspelled : (all : List ℕ) (k n : ℕ) (r : Reason) (t : Tree) → IsRefused all k r → IsAtFront all t n → ⊥
 unspelled all k n r t p q =
-    let f : broken k r ≡ found t n = sym (front_if_refused all k r p) ∙ front_if_spelled all t n q in
+    let f : Broken k r ≡ Whole t n = sym (front_if_refused all k r p) ∙ front_if_spelled all t n q in
     cc
 
-pub found_is : (all : List ℕ) (t : Tree) (n : ℕ) → (front_of all ≡ found t n) ↔ IsAtFront all t n
+pub found_is : (all : List ℕ) (t : Tree) (n : ℕ) → (front all ≡ Whole t n) ↔ IsAtFront all t n
 found_is all t n = (λ e. subst (Meets all) e (front_meets all), λ p. front_if_spelled all t n p)
 
-pub broken_is : (all : List ℕ) (k : ℕ) (r : Reason) → (front_of all ≡ broken k r) ↔ IsRefused all k r
+pub broken_is : (all : List ℕ) (k : ℕ) (r : Reason) → (front all ≡ Broken k r) ↔ IsRefused all k r
 broken_is all k r = (λ e. subst (Meets all) e (front_meets all), λ p. front_if_refused all k r p)
 
-undecided : (all : List ℕ) (f : Front) → Meets all f → IsUndecided all → f ≡ short
-undecided all (found t n) p q = absurd (q.0 t n p)
-undecided all short p q = refl
-undecided all (broken k r) p q = absurd (q.1 k r p)
+undecided : (all : List ℕ) (f : Front Tree) → Meets all f → IsUndecided all → f ≡ Short
+undecided all (Whole t n) p q = absurd (q.0 t n p)
+undecided all Short p q = refl
+undecided all (Broken k r) p q = absurd (q.1 k r p)
 
-pub short_is : (all : List ℕ) → (front_of all ≡ short) ↔ IsUndecided all
-short_is all = (λ e. subst (Meets all) e (front_meets all), λ p. undecided all (front_of all) (front_meets all) p)
+pub short_is : (all : List ℕ) → (front all ≡ Short) ↔ IsUndecided all
+short_is all = (λ e. subst (Meets all) e (front_meets all), λ p. undecided all (front all) (front_meets all) p)
 
 both : (a b : Bool) → a ≡ true → b ≡ true → (a && b) ≡ true
 both a b e f = rw e f

@@ -1,5 +1,5 @@
 -- What is read, and where reading stops, by the rules on tokens.
-use Rattle.std.proofs.Common.{◌≡◌, ℕ, zero, suc, ◌+◌, Bool, true, false, cond, ltb, nat_eq, List, [], ◌∷◌, ◌++◌, length, take, drop, Result, Ok, Err, Option, Some, None, refl, ap, ◌∙◌, append_assoc, arith, add-zero}
+use Rattle.std.proofs.Common.{◌≡◌, ℕ, zero, suc, ◌+◌, Bool, true, false, cond, ltb, nat_eq, List, [], ◌∷◌, ◌++◌, length, take, drop, Ok, Err, Option, Some, None, refl, ap, ◌∙◌, append_assoc, arith, add-zero}
 use Rattle.std.specs.Str.{is_utf8}
 use Rattle.std.specs.Int.{byte_len, from_be_bytes, cast_signed}
 use Rattle.std.specs.Prelude.{pos}
@@ -13,11 +13,12 @@ use Rattle.wire_base.specs.declared.token.TokenHead.TheVariants as token
 use Rattle.wire_base.specs.declared.token.HeadStep.{HeadStep}
 use Rattle.wire_base.specs.declared.token.HeadStep.TheVariants as step
 use Rattle.wire_base.specs.Head.{Kind, whole_head, unsigned, signed, str, bin, array, map, refused, kind_of, read_kind, head_of}
-use Rattle.pack_value.specs.declared.fault.Fault.{Fault}
-use Rattle.pack_value.specs.declared.fault.Fault.TheVariants.{Short, Refused}
+use Rattle.wire_base.specs.declared.reading.Fault.{Fault}
+use Rattle.wire_base.specs.declared.reading.Fault.TheVariants.{Ends, Breaks}
 use Rattle.pack_value.specs.Spelling.{max_len}
 use Rattle.pack_value.specs.Tokens.{Want, value, key, levels, opens, is_text, place_rule, first_rule, length_rule, body_len, content_rule, times, wants_of, Next, takes, cut, breaks, or_next, next_by_content, next_by_head, next_of}
-use Rattle.pack_value.specs.Reading.{◌>>=◌, Reader, counted_of, run_at, text_at, fault_of, cut_head, key_of, key_at, repeat, pair_at, behind, at_head, too_deep, value_at}
+use Rattle.wire_base.specs.Tokens.{Reading, Reader, follow, ◌>>=◌, done, bytes_at}
+use Rattle.pack_value.specs.Reading.{counted_of, run_at, text_at, fault_of, cut_head, key_of, key_at, repeat, pair_at, behind, at_head, too_deep, value_at}
 
 -- ---- tokens that pass
 
@@ -47,8 +48,8 @@ then_reaches ws b vs c us e p r = onward p.turns ws b vs c us e p.passes r
 -- ---- what a reading says of the tokens
 
 abbrev pub Says : Fault → Want → List ℕ → Type 0
-Says Short w c = next_of w c ≡ cut
-Says (Refused r left) w c = (next_of w c ≡ breaks r) × (length c ≡ left)
+Says Ends w c = next_of w c ≡ cut
+Says (Breaks left r) w c = (next_of w c ≡ breaks r) × (length c ≡ left)
 
 -- Tokens pass up to one that isn't whole or breaks a rule.
 pub record Stopped (f : Fault) (ws : List Want) (b : List ℕ) : Type 0 where
@@ -58,7 +59,7 @@ pub record Stopped (f : Fault) (ws : List Want) (b : List ℕ) : Type 0 where
   pub reach : Reaches ws b (want ∷ others) at
   pub says : Says f want at
 
-abbrev pub Follows : {A : Type 0} → List Want → List ℕ → Result (A × List ℕ) Fault → Type 0
+abbrev pub Follows : {A : Type 0} → List Want → List ℕ → Reading A → Type 0
 Follows vs b (Ok x) = (ws : List Want) → Reaches (vs ++ ws) b ws x.1
 Follows vs b (Err f) = (ws : List Want) → Stopped f (vs ++ ws) b
 
@@ -68,32 +69,32 @@ stops A f w b s = λ ws. record { want = w; others = ws; at = b; reach = stays (
 step_further : (w : Want) (b : List ℕ) (n : ℕ) (more ws vs : List Want) (c : List ℕ) → next_of w b ≡ takes n more → Reaches (more ++ ws) (drop n b) vs c → Reaches (w ∷ ws) b vs c
 step_further w b n more ws vs c e r = record { turns = suc r.turns; passes = (n, more, e, r.passes) }
 
-passed : {A : Type 0} (r : Result (A × List ℕ) Fault) (w : Want) (b : List ℕ) (n : ℕ) (more : List Want) → next_of w b ≡ takes n more → Follows more (drop n b) r → Follows (w ∷ []) b r
+passed : {A : Type 0} (r : Reading A) (w : Want) (b : List ℕ) (n : ℕ) (more : List Want) → next_of w b ≡ takes n more → Follows more (drop n b) r → Follows (w ∷ []) b r
 passed (Ok x) w b n more e f = λ ws. step_further w b n more ws ws x.1 e (f ws)
 passed (Err d) w b n more e f = λ ws.
     let s = f ws in
     record { want = s.want; others = s.others; at = s.at; reach = step_further w b n more ws (s.want ∷ s.others) s.at e s.reach; says = s.says }
 
-mapped : {A B : Type 0} (r : Result (A × List ℕ) Fault) (g : A → B) (vs : List Want) (b : List ℕ) → Follows vs b r → Follows vs b (r >>= λ x. Ok (g x.0, x.1))
+mapped : {A B : Type 0} (r : Reading A) (g : A → B) (vs : List Want) (b : List ℕ) → Follows vs b r → Follows vs b (follow r (λ x. done (g x)))
 mapped (Ok x) g vs b f = f
 mapped (Err d) g vs b f = f
 
-joined : {B : Type 0} (s : Result (B × List ℕ) Fault) (vs us : List Want) (b c : List ℕ) → ((ws : List Want) → Reaches (vs ++ ws) b ws c) → Follows us c s → Follows (vs ++ us) b s
+joined : {B : Type 0} (s : Reading B) (vs us : List Want) (b c : List ℕ) → ((ws : List Want) → Reaches (vs ++ ws) b ws c) → Follows us c s → Follows (vs ++ us) b s
 joined (Ok y) vs us b c p q = λ ws. rw (append_assoc vs us ws) (then_reaches (vs ++ (us ++ ws)) b (us ++ ws) c ws y.1 (p (us ++ ws)) (q ws))
 joined (Err d) vs us b c p q = λ ws.
     let s = q ws in
     record { want = s.want; others = s.others; at = s.at; reach = rw (append_assoc vs us ws) (then_reaches (vs ++ (us ++ ws)) b (us ++ ws) c (s.want ∷ s.others) s.at (p (us ++ ws)) s.reach); says = s.says }
 
-bound : {A B : Type 0} (r : Result (A × List ℕ) Fault) (f : A × List ℕ → Result (B × List ℕ) Fault) (vs us : List Want) (b : List ℕ) → Follows vs b r → ((x : A × List ℕ) → Follows us x.1 (f x)) → Follows (vs ++ us) b (r >>= f)
-bound (Ok x) f vs us b p q = joined (f x) vs us b x.1 p (q x)
+bound : {A B : Type 0} (r : Reading A) (f : A → Reader B) (vs us : List Want) (b : List ℕ) → Follows vs b r → ((x : A) (c : List ℕ) → Follows us c (f x c)) → Follows (vs ++ us) b (follow r f)
+bound (Ok x) f vs us b p q = joined (f x.0 x.1) vs us b x.1 p (q x.0 x.1)
 bound (Err d) f vs us b p q = λ ws. rw (append_assoc vs us ws) (p (us ++ ws))
 
 repeated : {A : Type 0} (read : Reader A) (vs : List Want) → ((b : List ℕ) → Follows vs b (read b)) → (n : ℕ) (b : List ℕ) → Follows (times n vs) b (repeat read n b)
 unfolding repeat
 repeated read vs f zero b = λ ws. stays ws b
 repeated read vs f (suc n) b =
-    bound (read b) (λ x. repeat read n x.1 >>= λ y. Ok (x.0 ∷ y.0, y.1)) vs (times n vs) b (f b)
-    (λ x. mapped (repeat read n x.1) (λ y. x.0 ∷ y) (times n vs) x.1 (repeated read vs f n x.1))
+    bound (read b) (λ x. repeat read n >>= λ xs. done (x ∷ xs)) vs (times n vs) b (f b)
+    (λ x c. mapped (repeat read n c) (λ xs. x ∷ xs) (times n vs) c (repeated read vs f n c))
 
 -- ---- the first byte, by the head behind it
 
@@ -162,38 +163,38 @@ next_if_short w (x ∷ rest) e =
 
 -- ---- runs and texts
 
-counts : {A : Type 0} (t : Bool) (w : Want) (b : List ℕ) (r : Result (A × List ℕ) Fault) (then_next : Next)
+counts : {A : Type 0} (t : Bool) (w : Want) (b : List ℕ) (r : Reading A) (then_next : Next)
     → next_of w b ≡ or_next (cond t (Some TooLong) None) then_next → (next_of w b ≡ then_next → Follows (w ∷ []) b r)
-    → Follows (w ∷ []) b (cond t (Err (Refused TooLong (length b))) r)
-counts {A} true w b r then_next e f = stops A (Refused TooLong (length b)) w b (e, refl)
+    → Follows (w ∷ []) b (cond t (Err (Breaks (length b) TooLong)) r)
+counts {A} true w b r then_next e f = stops A (Breaks (length b) TooLong) w b (e, refl)
 counts false w b r then_next e f = f e
 
-whole_run : {A : Type 0} (t s : Bool) (w : Want) (b : List ℕ) (x : List ℕ × List ℕ) (f : List ℕ × List ℕ → Result (A × List ℕ) Fault) (then_next : Next)
-    → next_of w b ≡ or_next (cond t (Some TooLong) None) (cond s cut then_next) → (next_of w b ≡ then_next → Follows (w ∷ []) b (f x))
-    → Follows (w ∷ []) b (cond t (Err (Refused TooLong (length b))) (cond s (Err Short) (Ok x)) >>= f)
-whole_run {A} true s w b x f then_next e g = stops A (Refused TooLong (length b)) w b (e, refl)
-whole_run {A} false true w b x f then_next e g = stops A Short w b e
+whole_run : {A : Type 0} (t s : Bool) (w : Want) (b : List ℕ) (x : List ℕ × List ℕ) (f : List ℕ → Reader A) (then_next : Next)
+    → next_of w b ≡ or_next (cond t (Some TooLong) None) (cond s cut then_next) → (next_of w b ≡ then_next → Follows (w ∷ []) b (f x.0 x.1))
+    → Follows (w ∷ []) b (follow (cond t (Err (Breaks (length b) TooLong)) (cond s (Err Ends) (Ok x))) f)
+whole_run {A} true s w b x f then_next e g = stops A (Breaks (length b) TooLong) w b (e, refl)
+whole_run {A} false true w b x f then_next e g = stops A Ends w b e
 whole_run false false w b x f then_next e g = g e
 
 valid : (u : Bool) (w : Want) (b : List ℕ) (x : List ℕ × List ℕ) (n : ℕ) → next_of w b ≡ or_next (cond u None (Some BadUtf8)) (takes n []) → x.1 ≡ drop n b
-    → Follows {A = List ℕ} (w ∷ []) b (cond u (Ok x) (Err (Refused BadUtf8 (length b))))
+    → Follows {A = List ℕ} (w ∷ []) b (cond u (Ok x) (Err (Breaks (length b) BadUtf8)))
 valid true w b x n e d = passed (Ok x) w b n [] e (λ ws. rw d (stays ws (drop n b)))
-valid false w b x n e d = stops (List ℕ) (Refused BadUtf8 (length b)) w b (e, refl)
+valid false w b x n e d = stops (List ℕ) (Breaks (length b) BadUtf8) w b (e, refl)
 
 follows_text : (w : Want) (b : List ℕ) (len n : ℕ) → next_of w b ≡ or_next (length_rule (token.Str len)) (next_by_content w (token.Str len) n (drop n b))
     → Follows (w ∷ []) b (text_at (length b) len (drop n b))
-unfolding text_at run_at
+unfolding text_at run_at bytes_at
 follows_text w b len n e =
     let rest = drop n b in
-    whole_run (ltb max_len len) (ltb (length rest) len) w b (take len rest, drop len rest) (λ x. cond (is_utf8 x.0) (Ok x) (Err (Refused BadUtf8 (length b)))) (or_next (content_rule (token.Str len) (take len rest)) (takes (n + len) [])) e
+    whole_run (ltb max_len len) (ltb (length rest) len) w b (take len rest, drop len rest) (λ s after. cond (is_utf8 s) (Ok (s, after)) (Err (Breaks (length b) BadUtf8))) (or_next (content_rule (token.Str len) (take len rest)) (takes (n + len) [])) e
     (λ f. valid (is_utf8 (take len rest)) w b (take len rest, drop len rest) (n + len) f (drop-drop len n b))
 
 follows_run : (w : Want) (b : List ℕ) (len n : ℕ) → next_of w b ≡ or_next (length_rule (token.Bin len)) (next_by_content w (token.Bin len) n (drop n b))
-    → Follows (w ∷ []) b (run_at (length b) len (drop n b) >>= λ x. Ok (bytes x.0, x.1))
-unfolding run_at
+    → Follows (w ∷ []) b (follow (run_at (length b) len (drop n b)) (λ s. done (bytes s)))
+unfolding run_at bytes_at
 follows_run w b len n e =
     let rest = drop n b in
-    whole_run (ltb max_len len) (ltb (length rest) len) w b (take len rest, drop len rest) (λ x. Ok (bytes x.0, x.1)) (takes (n + len) []) e
+    whole_run (ltb max_len len) (ltb (length rest) len) w b (take len rest, drop len rest) (λ s. done (bytes s)) (takes (n + len) []) e
     (λ f. passed (Ok (bytes (take len rest), drop len rest)) w b (n + len) [] f (λ ws. rw (drop-drop len n b) (stays ws (drop (n + len) b))))
 
 -- ---- values
@@ -214,7 +215,7 @@ module _ (d : ℕ) (is : ℕ → ℕ → Reader (List Tree)) (ps : ℕ → ℕ �
   follows_head : (s : HeadStep) (b : List ℕ) → head_of b ≡ s → Follows (value d ∷ []) b (at_head d (is (length b)) (ps (length b)) s b)
   unfolding behind
   follows_head step.Short b e = stops Tree (cut_head (value d) b) (value d) b (next_if_short (value d) b e)
-  follows_head (step.Refused r) b e = stops Tree (Refused r (length b)) (value d) b (next_if_refused (value d) b r e, refl)
+  follows_head (step.Refused r) b e = stops Tree (Breaks (length b) r) (value d) b (next_if_refused (value d) b r e, refl)
   follows_head (step.Got token.Nil n) b e = scalar (value d) b n nil (next_if_alone (value d) b token.Nil n e refl refl)
   follows_head (step.Got (token.Flag v) n) b e = scalar (value d) b n (flag v) (next_if_alone (value d) b (token.Flag v) n e refl refl)
   follows_head (step.Got (token.Whole z) n) b e = scalar (value d) b n (whole z) (next_if_alone (value d) b (token.Whole z) n e refl refl)
@@ -229,18 +230,18 @@ module _ (d : ℕ) (is : ℕ → ℕ → Reader (List Tree)) (ps : ℕ → ℕ �
 -- ---- keys
 
 nested : (u : Bool) (d : ℕ) (b : List ℕ) (then_next : Next) → next_of (key d) b ≡ or_next (cond u (Some TooDeep) (Some KeyNotText)) then_next
-    → Follows {A = List ℕ} (key d ∷ []) b (Err (Refused (cond u TooDeep KeyNotText) (length b)))
-nested true d b then_next e = stops (List ℕ) (Refused TooDeep (length b)) (key d) b (e, refl)
-nested false d b then_next e = stops (List ℕ) (Refused KeyNotText (length b)) (key d) b (e, refl)
+    → Follows {A = List ℕ} (key d ∷ []) b (Err (Breaks (length b) (cond u TooDeep KeyNotText)))
+nested true d b then_next e = stops (List ℕ) (Breaks (length b) TooDeep) (key d) b (e, refl)
+nested false d b then_next e = stops (List ℕ) (Breaks (length b) KeyNotText) (key d) b (e, refl)
 
-no_text : (d : ℕ) (b : List ℕ) (h : TokenHead) (n : ℕ) → head_of b ≡ step.Got h n → rule_of (key d) h ≡ Some KeyNotText → Follows {A = List ℕ} (key d ∷ []) b (Err (Refused KeyNotText (length b)))
+no_text : (d : ℕ) (b : List ℕ) (h : TokenHead) (n : ℕ) → head_of b ≡ step.Got h n → rule_of (key d) h ≡ Some KeyNotText → Follows {A = List ℕ} (key d ∷ []) b (Err (Breaks (length b) KeyNotText))
 no_text d b h n e r =
-    stops (List ℕ) (Refused KeyNotText (length b)) (key d) b
+    stops (List ℕ) (Breaks (length b) KeyNotText) (key d) b
     (next_if_got (key d) b h n e ∙ ap (λ o. or_next o (or_next (length_rule h) (next_by_content (key d) h n (drop n b)))) r, refl)
 
 key_follows : (d : ℕ) (s : HeadStep) (b : List ℕ) → head_of b ≡ s → Follows (key d ∷ []) b (key_of d s b)
 key_follows d step.Short b e = stops (List ℕ) (cut_head (key d) b) (key d) b (next_if_short (key d) b e)
-key_follows d (step.Refused r) b e = stops (List ℕ) (Refused r (length b)) (key d) b (next_if_refused (key d) b r e, refl)
+key_follows d (step.Refused r) b e = stops (List ℕ) (Breaks (length b) r) (key d) b (next_if_refused (key d) b r e, refl)
 key_follows d (step.Got token.Nil n) b e = no_text d b token.Nil n e refl
 key_follows d (step.Got (token.Flag v) n) b e = no_text d b (token.Flag v) n e refl
 key_follows d (step.Got (token.Whole z) n) b e = no_text d b (token.Whole z) n e refl
@@ -260,8 +261,8 @@ follows_key d b = key_follows d (head_of b) b refl
 follows_pair : (d : ℕ) (read : Reader Tree) → ((b : List ℕ) → Follows (value d ∷ []) b (read b)) → (b : List ℕ) → Follows (key d ∷ value d ∷ []) b (pair_at d read b)
 unfolding pair_at
 follows_pair d read f b =
-    bound (key_at d b) (λ k. read k.1 >>= λ x. Ok ((k.0, x.0), x.1)) (key d ∷ []) (value d ∷ []) b (follows_key d b)
-    (λ k. mapped (read k.1) (λ t. (k.0, t)) (value d ∷ []) k.1 (f k.1))
+    bound (key_at d b) (λ k. read >>= λ x. done (k, x)) (key d ∷ []) (value d ∷ []) b (follows_key d b)
+    (λ k c. mapped (read c) (λ t. (k, t)) (value d ∷ []) c (f c))
 
 some_left : (d : ℕ) → nat_eq (suc d) 0 ≡ false
 some_left d = grind arith
@@ -278,8 +279,8 @@ pub follows_value : (d : ℕ) (b : List ℕ) → Follows (value d ∷ []) b (val
 unfolding value_at
 follows_value zero b =
     follows_head 0 too_deep too_deep
-    (λ b n len e. stops (List Tree) (Refused TooDeep (length b)) (value 0) b (e, refl))
-    (λ b n len e. stops (List (List ℕ × Tree)) (Refused TooDeep (length b)) (value 0) b (e, refl))
+    (λ b n len e. stops (List Tree) (Breaks (length b) TooDeep) (value 0) b (e, refl))
+    (λ b n len e. stops (List (List ℕ × Tree)) (Breaks (length b) TooDeep) (value 0) b (e, refl))
     (head_of b) b refl
 follows_value (suc d) b =
     follows_head (suc d) (λ left. counted_of left (value_at d)) (λ left. counted_of left (pair_at d (value_at d)))

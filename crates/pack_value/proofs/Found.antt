@@ -11,18 +11,19 @@ use Rattle.wire_base.specs.declared.token.TokenHead.TheVariants as token
 use Rattle.wire_base.specs.declared.token.HeadStep.{HeadStep}
 use Rattle.wire_base.specs.declared.token.HeadStep.TheVariants as step
 use Rattle.wire_base.specs.Head.{head_of}
-use Rattle.pack_value.specs.declared.fault.Fault.{Fault}
-use Rattle.pack_value.specs.declared.fault.Fault.TheVariants.{Short, Refused}
+use Rattle.wire_base.specs.declared.reading.Fault.{Fault}
+use Rattle.wire_base.specs.declared.reading.Fault.TheVariants.{Ends, Breaks}
 use Rattle.wire_base.specs.declared.reason.Reason.TheVariants.{TooLong, BadUtf8}
-use Rattle.pack_value.specs.Reading.{◌>>=◌, Reader, run_at, text_at, key_of, key_at, repeat, pair_at, counted, counted_of, behind, at_head, too_deep, value_at}
+use Rattle.wire_base.specs.Tokens.{Reading, Reader, follow, ◌>>=◌, done, bytes_at}
+use Rattle.pack_value.specs.Reading.{run_at, text_at, key_of, key_at, repeat, pair_at, counted, counted_of, behind, at_head, too_deep, value_at}
 use Rattle.wire_base.specs.Values.{nesting, nestings, pair_nestings}
 use Rattle.pack_value.specs.Spelling.{IsHead, SpellsText, Spells, SpellsAll, SpellsPairs, count, pair_count, max_len}
 use Rattle.pack_value.proofs.Heads.{head-front}
 
 -- the value of a step that did not fail
-bind_ok : {A B : Type 0} (r : Result A Fault) (f : A → Result B Fault) (y : B) → (r >>= f) ≡ Ok y → (x : A) × (r ≡ Ok x) × (f x ≡ Ok y)
-bind_ok (Ok x) f y e = (x, refl, e)
-bind_ok (Err d) f y e = absurd cc
+follow_ok : {A B : Type 0} (r : Reading A) (f : A → Reader B) (y : B × List ℕ) → follow r f ≡ Ok y → (x : A × List ℕ) × (r ≡ Ok x) × (f x.0 x.1 ≡ Ok y)
+follow_ok (Ok x) f y e = (x, refl, e)
+follow_ok (Err d) f y e = absurd cc
 
 -- a test that did not fail
 guard_ok : {A : Type 0} (b : Bool) (d : Fault) (r : Result A Fault) (y : A) → cond b (Err d) r ≡ Ok y → (b ≡ false) × (r ≡ Ok y)
@@ -33,10 +34,7 @@ passed : {A : Type 0} (b : Bool) (d : Fault) (r : Result A Fault) (y : A) → co
 passed true d r y e = (refl, e)
 passed false d r y e = absurd cc
 
-abbrev done : {A : Type 0} → A → Result A Fault
-done x = Ok x
-
-ok_is : {A : Type 0} (x y : A) → done x ≡ done y → x ≡ y
+ok_is : {A : Type 0} (x y : A × List ℕ) → done x.0 x.1 ≡ done y.0 y.1 → x ≡ y
 ok_is x y e = cc
 
 -- The value and the rest stand for these bytes, and the value nests at most d deep.
@@ -54,10 +52,10 @@ pub record IsRun (n : ℕ) (rest : List ℕ) (x : List ℕ × List ℕ) : Type 0
   pub parts : rest ≡ x.0 ++ x.1
 
 run_found : (left n : ℕ) (rest : List ℕ) (x : List ℕ × List ℕ) → run_at left n rest ≡ Ok x → IsRun n rest x
-unfolding run_at
+unfolding run_at bytes_at
 run_found left n rest x e =
-    let a = guard_ok (ltb max_len n) (Refused TooLong left) (cond (ltb (length rest) n) (Err Short) (Ok (take n rest, drop n rest))) x e in
-    let b = guard_ok (ltb (length rest) n) Short (Ok (take n rest, drop n rest)) x a.1 in
+    let a = guard_ok (ltb max_len n) (Breaks left TooLong) (cond (ltb (length rest) n) (Err Ends) (Ok (take n rest, drop n rest))) x e in
+    let b = guard_ok (ltb (length rest) n) Ends (Ok (take n rest, drop n rest)) x a.1 in
     let le : n ≤ length rest = ltb-false (length rest) n b.0 in
     let most : n ≤ max_len = ltb-false max_len n a.0 in
     subst (λ (y : List ℕ × List ℕ). IsRun n rest y) (ok_is (take n rest, drop n rest) x b.1)
@@ -66,8 +64,8 @@ run_found left n rest x e =
 text_found : (left n : ℕ) (rest : List ℕ) (x : List ℕ × List ℕ) → text_at left n rest ≡ Ok x → IsRun n rest x × IsUtf8 x.0
 unfolding text_at
 text_found left n rest x e =
-    let a = bind_ok (run_at left n rest) (λ x. cond (is_utf8 x.0) (Ok x) (Err (Refused BadUtf8 left))) x e in
-    let b = passed (is_utf8 a.0.0) (Refused BadUtf8 left) (Ok a.0) x a.2 in
+    let a = follow_ok (run_at left n rest) (λ s after. cond (is_utf8 s) (Ok (s, after)) (Err (Breaks left BadUtf8))) x e in
+    let b = passed (is_utf8 a.0.0) (Breaks left BadUtf8) (Ok a.0) x a.2 in
     subst (λ (y : List ℕ × List ℕ). IsRun n rest y × IsUtf8 y.0) (ok_is a.0 x b.1) (run_found left n rest a.0 a.1, IsUtf8-from_is_utf8 a.0.0 b.0)
 
 -- ---- what stands behind a head
@@ -92,7 +90,7 @@ pub record FoundPairs (d n : ℕ) (rest : List ℕ) (x : List (List ℕ × Tree)
   pub counts : pair_count (pairs_of x.0) ≡ n
   pub nests : pair_nestings (pairs_of x.0) + 1 ≤ d
 
-scalar : (d : ℕ) (h : TokenHead) (t : Tree) (rest : List ℕ) (x : Tree × List ℕ) → ((b : List ℕ) → IsHead h b → Spells t b) → nesting t ≡ 0 → done (t, rest) ≡ Ok x → Behind d h rest x
+scalar : (d : ℕ) (h : TokenHead) (t : Tree) (rest : List ℕ) (x : Tree × List ℕ) → ((b : List ℕ) → IsHead h b → Spells t b) → nesting t ≡ 0 → done t rest ≡ Ok x → Behind d h rest x
 scalar d h t rest x spelled flat e =
     subst (λ (y : Tree × List ℕ). Behind d h rest y) (ok_is (t, rest) x e)
     (record { body = []; parts = refl; spells = λ b is. rw (append-nil b) (spelled b is); nests = rw flat (omega arith) })
@@ -106,7 +104,7 @@ module _ (d : ℕ) (is : ℕ → Reader (List Tree)) (ps : ℕ → Reader (List 
   behind_found left (token.Flag v) rest x e = scalar d (token.Flag v) (flag v) rest x (λ b is. is) refl e
   behind_found left (token.Whole z) rest x e = scalar d (token.Whole z) (whole z) rest x (λ b is. is) refl e
   behind_found left (token.Str n) rest x e =
-      let a = bind_ok (text_at left n rest) (λ x. Ok (words x.0, x.1)) x e in
+      let a = follow_ok (text_at left n rest) (λ s. done (words s)) x e in
       let r = text_found left n rest a.0 a.1 in
       subst (λ (y : Tree × List ℕ). Behind d (token.Str n) rest y) (ok_is (words a.0.0, a.0.1) x a.2)
       (record {
@@ -116,7 +114,7 @@ module _ (d : ℕ) (is : ℕ → Reader (List Tree)) (ps : ℕ → Reader (List 
         nests = omega arith;
       })
   behind_found left (token.Bin n) rest x e =
-      let a = bind_ok (run_at left n rest) (λ x. Ok (bytes x.0, x.1)) x e in
+      let a = follow_ok (run_at left n rest) (λ s. done (bytes s)) x e in
       let r = run_found left n rest a.0 a.1 in
       subst (λ (y : Tree × List ℕ). Behind d (token.Bin n) rest y) (ok_is (bytes a.0.0, a.0.1) x a.2)
       (record {
@@ -126,7 +124,7 @@ module _ (d : ℕ) (is : ℕ → Reader (List Tree)) (ps : ℕ → Reader (List 
         nests = omega arith;
       })
   behind_found left (token.Array n) rest x e =
-      let a = bind_ok (is n rest) (λ x. Ok (items (trees_of x.0), x.1)) x e in
+      let a = follow_ok (is n rest) (λ ts. done (items (trees_of ts))) x e in
       let found = items-found n rest a.0 a.1 in
       let r = found.0 in
       subst (λ (y : Tree × List ℕ). Behind d (token.Array n) rest y) (ok_is (items (trees_of a.0.0), a.0.1) x a.2)
@@ -137,7 +135,7 @@ module _ (d : ℕ) (is : ℕ → Reader (List Tree)) (ps : ℕ → Reader (List 
         nests = r.nests;
       })
   behind_found left (token.Map n) rest x e =
-      let a = bind_ok (ps n rest) (λ x. Ok (pairs (pairs_of x.0), x.1)) x e in
+      let a = follow_ok (ps n rest) (λ ps. done (pairs (pairs_of ps))) x e in
       let found = pairs-found n rest a.0 a.1 in
       let r = found.0 in
       subst (λ (y : Tree × List ℕ). Behind d (token.Map n) rest y) (ok_is (pairs (pairs_of a.0.0), a.0.1) x a.2)
@@ -172,8 +170,8 @@ unfolding repeat
 repeat_found d read reads zero rest y e =
     subst (λ (y : List Tree × List ℕ). FoundAll (suc d) 0 rest y) (ok_is ([], rest) y e) (record { body = []; parts = refl; spells = refl; counts = refl; nests = omega arith })
 repeat_found d read reads (suc n) rest y e =
-    let a = bind_ok (read rest) (λ x. repeat read n x.1 >>= λ y. Ok (x.0 ∷ y.0, y.1)) y e in
-    let b = bind_ok (repeat read n a.0.1) (λ y. Ok (a.0.0 ∷ y.0, y.1)) y a.2 in
+    let a = follow_ok (read rest) (λ x. repeat read n >>= λ xs. done (x ∷ xs)) y e in
+    let b = follow_ok (repeat read n a.0.1) (λ xs. done (a.0.0 ∷ xs)) y a.2 in
     let p = reads rest a.0 a.1 in
     let q = repeat_found d read reads n a.0.1 b.0 b.1 in
     subst (λ (y : List Tree × List ℕ). FoundAll (suc d) (suc n) rest y) (ok_is (a.0.0 ∷ b.0.0, b.0.1) y b.2)
@@ -202,8 +200,8 @@ pair_found : (d : ℕ) (read : Reader Tree) → ((bytes : List ℕ) (x : Tree ×
     → (w : List ℕ) × (v : List ℕ) × (rest ≡ w ++ (v ++ y.1)) × SpellsText y.0.0 w × Spells y.0.1 v × (nesting y.0.1 ≤ d)
 unfolding pair_at key_at
 pair_found d read reads rest y e =
-    let a = bind_ok (key_of d (head_of rest) rest) (λ k. read k.1 >>= λ x. Ok ((k.0, x.0), x.1)) y e in
-    let b = bind_ok (read a.0.1) (λ x. Ok ((a.0.0, x.0), x.1)) y a.2 in
+    let a = follow_ok (key_of d (head_of rest) rest) (λ k. read >>= λ x. done (k, x)) y e in
+    let b = follow_ok (read a.0.1) (λ x. done (a.0.0, x)) y a.2 in
     let k = key_found d (head_of rest) rest a.0 refl a.1 in
     let v = reads a.0.1 b.0 b.1 in
     subst (λ (y : (List ℕ × Tree) × List ℕ). (w : List ℕ) × (v : List ℕ) × (rest ≡ w ++ (v ++ y.1)) × SpellsText y.0.0 w × Spells y.0.1 v × (nesting y.0.1 ≤ d))
@@ -216,8 +214,8 @@ unfolding repeat
 repeat_pairs_found d read reads zero rest y e =
     subst (λ (y : List (List ℕ × Tree) × List ℕ). FoundPairs (suc d) 0 rest y) (ok_is ([], rest) y e) (record { body = []; parts = refl; spells = refl; counts = refl; nests = omega arith })
 repeat_pairs_found d read reads (suc n) rest y e =
-    let a = bind_ok (pair_at d read rest) (λ x. repeat (pair_at d read) n x.1 >>= λ y. Ok (x.0 ∷ y.0, y.1)) y e in
-    let b = bind_ok (repeat (pair_at d read) n a.0.1) (λ y. Ok (a.0.0 ∷ y.0, y.1)) y a.2 in
+    let a = follow_ok (pair_at d read rest) (λ x. repeat (pair_at d read) n >>= λ xs. done (x ∷ xs)) y e in
+    let b = follow_ok (repeat (pair_at d read) n a.0.1) (λ xs. done (a.0.0 ∷ xs)) y a.2 in
     let p = pair_found d read reads rest a.0 a.1 in
     let q = repeat_pairs_found d read reads n a.0.1 b.0 b.1 in
     subst (λ (y : List (List ℕ × Tree) × List ℕ). FoundPairs (suc d) (suc n) rest y) (ok_is (a.0.0 ∷ b.0.0, b.0.1) y b.2)
@@ -229,9 +227,9 @@ repeat_pairs_found d read reads (suc n) rest y e =
       nests = omega (arith, p.5, q.nests);
     })
 
-counted_found : {A : Type 0} (left n : ℕ) (r : Result A Fault) (y : A) → counted left n r ≡ Ok y → (r ≡ Ok y) × (n ≤ max_len)
+counted_found : {A : Type 0} (left n : ℕ) (r : Reading A) (y : A × List ℕ) → counted left n r ≡ Ok y → (r ≡ Ok y) × (n ≤ max_len)
 counted_found left n r y e =
-    let g = guard_ok (ltb max_len n) (Refused TooLong left) r y e in
+    let g = guard_ok (ltb max_len n) (Breaks left TooLong) r y e in
     (g.1, ltb-false max_len n g.0)
 
 items_found : (d : ℕ) (read : Reader Tree) → ((bytes : List ℕ) (x : Tree × List ℕ) → read bytes ≡ Ok x → Found d bytes x)

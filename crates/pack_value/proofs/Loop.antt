@@ -1,20 +1,20 @@
 -- Reading one after the other, as a loop does.
-use Rattle.std.proofs.Common.{◌≡◌, ℕ, suc, ◌-◌, ◌+◌, ◌≤◌, ◌<◌, List, [], ◌∷◌, ◌++◌, Result, Ok, Err, refl, sym, ap, ◌∙◌, append_assoc, arith}
+use Rattle.std.proofs.Common.{◌≡◌, ℕ, suc, ◌-◌, ◌+◌, ◌≤◌, ◌<◌, List, [], ◌∷◌, ◌++◌, Ok, Err, refl, sym, ap, ◌∙◌, append_assoc, arith}
 use Rattle.std.proofs.lemmas.List.{append-nil}
-use Rattle.pack_value.specs.declared.fault.Fault.{Fault}
-use Rattle.pack_value.specs.declared.fault.DecodeError.{DecodeError}
-use Rattle.pack_value.specs.declared.fault.DecodeError.TheVariants as errors
-use Rattle.pack_value.specs.Reading.{◌>>=◌, Fails, Reader, repeat}
+use Rattle.wire_base.specs.declared.reading.DecodeError.{DecodeError}
+use Rattle.wire_base.specs.declared.reading.DecodeError.TheVariants as errors
+use Rattle.wire_base.specs.Tokens.{Reading, Reader, Fails, follow, done}
+use Rattle.pack_value.specs.Reading.{repeat}
 
 -- what was read before, and what is still read
-abbrev pub with_front : {A : Type 0} → List A → Result (List A × List ℕ) Fault → Result (List A × List ℕ) Fault
-with_front front read = read >>= λ x. Ok (front ++ x.0, x.1)
+abbrev pub with_front : {A : Type 0} → List A → Reading (List A) → Reading (List A)
+with_front front read = follow read (λ xs. done (front ++ xs))
 
-regroup : {A : Type 0} (front : List A) (t : A) (read : Result (List A × List ℕ) Fault) → with_front front (read >>= λ y. Ok (t ∷ y.0, y.1)) ≡ with_front (front ++ t ∷ []) read
+regroup : {A : Type 0} (front : List A) (t : A) (read : Reading (List A)) → with_front front (follow read (λ xs. done (t ∷ xs))) ≡ with_front (front ++ t ∷ []) read
 regroup {A} front t (Ok x) = ap (λ (ts : List A). Ok (ts, x.1)) (simp append_assoc)
 regroup front t (Err f) = refl
 
-module _ {A : Type 0} (read : Reader A) (front : List A) (count i : ℕ) (rest : List ℕ) (total : Result (List A × List ℕ) Fault) where
+module _ {A : Type 0} (read : Reader A) (front : List A) (count i : ℕ) (rest : List ℕ) (total : Reading (List A)) where
   pub goes_on : (t : A) (after : List ℕ) → i < count → read rest ≡ Ok (t, after)
       → with_front front (repeat read (count - i) rest) ≡ total → with_front (front ++ t ∷ []) (repeat read (count - (i + 1)) after) ≡ total
   unfolding repeat

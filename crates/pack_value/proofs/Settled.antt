@@ -7,7 +7,7 @@ use Rattle.wire_base.specs.declared.token.TokenHead.{TokenHead}
 use Rattle.wire_base.specs.declared.token.HeadStep.{HeadStep}
 use Rattle.wire_base.specs.declared.token.HeadStep.TheVariants as step
 use Rattle.wire_base.specs.Head.{kind_of, head_of}
-use Rattle.pack_value.specs.declared.fault.Fault.TheVariants.{Short, Refused}
+use Rattle.wire_base.specs.declared.reading.Fault.TheVariants.{Ends, Breaks}
 use Rattle.pack_value.specs.Tokens.{Want, levels, first_rule, length_rule, body_len, content_rule, wants_of, Next, takes, cut, breaks, or_next, next_by_content, next_by_head, next_of, BreaksAfter}
 use Rattle.wire_base.proofs.HeadLemmas.{head_stays, refused_stays}
 use Rattle.pack_value.proofs.Heads.{head-front}
@@ -74,12 +74,12 @@ at_break : (n : ℕ) (w : Want) (ws : List Want) (c : List ℕ) (k : ℕ) (r s :
 at_break zero w ws c k r s e q = (cc, q.1)
 at_break (suc n) w ws c k r s e q = absurd cc
 
-pub not_short : (ws : List Want) (b : List ℕ) → Stopped Short ws b → (n k : ℕ) (r : Reason) → BreaksAfter n ws b k r → ⊥
+pub not_short : (ws : List Want) (b : List ℕ) → Stopped Ends ws b → (n k : ℕ) (r : Reason) → BreaksAfter n ws b k r → ⊥
 not_short ws b p n k r q =
     let f = forced p.reach.turns ws b (p.want ∷ p.others) p.at p.reach.passes n k r q in
     at_cut f.turns p.want p.others p.at f.after r p.says f.breaks
 
-pub same_break : (ws : List Want) (b : List ℕ) (s : Reason) (left : ℕ) → Stopped (Refused s left) ws b → (n k : ℕ) (r : Reason) → BreaksAfter n ws b k r → (s ≡ r) × (k + left ≡ length b)
+pub same_break : (ws : List Want) (b : List ℕ) (s : Reason) (left : ℕ) → Stopped (Breaks left s) ws b → (n k : ℕ) (r : Reason) → BreaksAfter n ws b k r → (s ≡ r) × (k + left ≡ length b)
 same_break ws b s left p n k r q =
     let f = forced p.reach.turns ws b (p.want ∷ p.others) p.at p.reach.passes n k r q in
     let e = at_break f.turns p.want p.others p.at f.after r s p.says.0 f.breaks in
@@ -98,7 +98,7 @@ broken_later (suc m) (v ∷ ws) b w vs c r p e =
     let i = broken_later m (p.1 ++ ws) (drop p.0 b) w vs c r p.3 e in
     record { turns = suc i.turns; after = p.0 + i.after; breaks = (p.0, i.after, p.1, p.2, refl, i.breaks); sum = omega (arith, i.sum, length-drop p.0 b, takes_within v b p.0 p.1 p.2) }
 
-pub broken_at : (ws : List Want) (b : List ℕ) (r : Reason) (left : ℕ) → Stopped (Refused r left) ws b → Broken ws b left r
+pub broken_at : (ws : List Want) (b : List ℕ) (r : Reason) (left : ℕ) → Stopped (Breaks left r) ws b → Broken ws b left r
 broken_at ws b r left p = rw (← p.says.1) (broken_later p.reach.turns ws b p.want p.others p.at r p.reach.passes p.says.0)
 
 -- ---- whatever follows

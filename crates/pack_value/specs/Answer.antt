@@ -1,9 +1,9 @@
 -- What decoding answers.
-use Rattle.std.specs.Prelude.{◌≡◌, ℕ, ◌+◌, ◌-◌, ◌≤◌, List, length, take, Result, Ok, Err}
+use Rattle.std.specs.Prelude.{◌≡◌, ℕ, ◌+◌, ◌≤◌, List, length, take}
 use Rattle.wire_base.specs.Tree.{Tree}
 use Rattle.wire_base.specs.declared.reason.Reason.{Reason}
-use Rattle.pack_value.specs.declared.fault.Fault.{Fault}
-use Rattle.pack_value.specs.declared.fault.Fault.TheVariants as fault
+pub use Rattle.wire_base.specs.Front.{Front, Whole, Short, Broken}
+use Rattle.wire_base.specs.Front.{front_of}
 use Rattle.pack_value.specs.declared.step.Step.{Step}
 use Rattle.pack_value.specs.declared.step.Step.TheVariants as step
 use Rattle.wire_base.specs.Values.{max_nesting}
@@ -11,27 +11,15 @@ use Rattle.pack_value.specs.Spelling.{IsSpelling}
 use Rattle.pack_value.specs.Tokens.{IsRefused}
 use Rattle.pack_value.specs.Reading.{value_at}
 
--- What stands at the front of bytes: a value that so many bytes spell, too few bytes to tell, or a token so many
--- bytes from the front that is refused.
-pub data Front : Type 0 where
-  found : Tree → ℕ → Front
-  short : Front
-  broken : ℕ → Reason → Front
-
-abbrev pub front_from : ℕ → Result (Tree × List ℕ) Fault → Front
-front_from len (Ok x) = found x.0 (len - length x.1)
-front_from len (Err fault.Short) = short
-front_from len (Err (fault.Refused r left)) = broken (len - left) r
-
 -- What stands at the front of these bytes.
-unfoldable pub front_of : List ℕ → Front
-front_of bytes = front_from (length bytes) (value_at max_nesting bytes)
+unfoldable pub front : List ℕ → Front Tree
+front bytes = front_of (length bytes) (value_at max_nesting bytes)
 
 -- The answer that says what stands at the front of bytes that begin at this place of a stream.
-abbrev pub step_of : ℕ → Front → Step
-step_of at (found t n) = step.Got t n
-step_of at short = step.Short
-step_of at (broken k r) = step.Refused (record { 0 = at + k }) r
+abbrev pub step_of : ℕ → Front Tree → Step
+step_of at (Whole t n) = step.Got t n
+step_of at Short = step.Short
+step_of at (Broken k r) = step.Refused (record { 0 = at + k }) r
 
 -- The answer is the second one, unless memory ran out.
 abbrev pub Answers : Step → Step → Type 0

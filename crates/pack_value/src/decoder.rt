@@ -5,25 +5,25 @@ ghost use Rattle.wire_base.specs.Head.{kind_of, lettered};
 ghost use Rattle.wire_base.specs.declared.reason.Reason.{Reason};
 ghost use Rattle.pack_value.specs.Spelling.{IsSpelling};
 ghost use Rattle.pack_value.specs.Tokens.{IsRefused, opens, is_text, value, key};
-ghost use Rattle.pack_value.specs.Answer.{Answers, IfGot, IfRefused, IfShort, IsAtFront, IsUndecided, step_of, front_of};
-ghost use Rattle.pack_value.specs.Reading.{Gives, cut_head, nested_key, run_at, text_at, key_at, items_at, pairs_at, repeat, pair_at, behind, value_at};
+ghost use Rattle.wire_base.specs.Tokens.{Gives};
+ghost use Rattle.pack_value.specs.Answer.{Answers, IfGot, IfRefused, IfShort, IsAtFront, IsUndecided, step_of, front};
+ghost use Rattle.pack_value.specs.Reading.{cut_head, nested_key, run_at, text_at, key_at, items_at, pairs_at, repeat, pair_at, behind, value_at};
 
-use crate::fault::{DecodeError, Fault};
 use crate::limits::MAX_LEN;
 use crate::step::Step;
 use std::alloc::Global;
 use wire_base::{
-    Blob, Datum, DatumList, HeadStep, MAX_NESTING, MAX_PLACE, Node, PairList, Place, Reason, Text,
-    TextFault, TokenHead, head,
+    Blob, Datum, DatumList, DecodeError, Fault, HeadStep, MAX_NESTING, MAX_PLACE, Node, PairList,
+    Place, Reason, Text, TextFault, TokenHead, head,
 };
 
 fn refused(reason: Reason, left: usize) -> DecodeError
-    ensures { result ≡ DecodeError.Fault (Fault.Refused reason left) }
+    ensures { result ≡ DecodeError.Fault (Fault.Breaks left reason) }
 {
-    DecodeError::Fault(Fault::Refused(reason, left))
+    DecodeError::Fault(Fault::Breaks(left, reason))
 }
 
-#[tactic(auto, unfolding(crate::specs::Reading::run_at))]
+#[tactic(auto, unfolding(crate::specs::Reading::run_at, wire_base::specs::Tokens::bytes_at))]
 fn run_of(left: usize, len: u32, rest: &[u8]) -> Result<(&[u8], &[u8]), DecodeError>
     ensures { Gives (λ x. (x.0.now, x.1.now)) result (run_at left len rest.now) }
 {
@@ -32,7 +32,7 @@ fn run_of(left: usize, len: u32, rest: &[u8]) -> Result<(&[u8], &[u8]), DecodeEr
     }
     let len = len as usize;
     if rest.len() < len {
-        return Err(DecodeError::Fault(Fault::Short));
+        return Err(DecodeError::Fault(Fault::Ends));
     }
     Ok(rest.split_at(len))
 }
@@ -71,12 +71,12 @@ fn cut_value(depth: u32, bytes: &[u8]) -> Fault
     ensures { result ≡ cut_head (value depth) bytes.now }
 {
     let [first, ..] = bytes else {
-        return Fault::Short;
+        return Fault::Ends;
     };
     if depth == 0 && opens_list(*first) {
-        Fault::Refused(Reason::TooDeep, bytes.len())
+        Fault::Breaks(bytes.len(), Reason::TooDeep)
     } else {
-        Fault::Short
+        Fault::Ends
     }
 }
 
@@ -86,14 +86,14 @@ fn cut_key(depth: u32, bytes: &[u8]) -> Fault
     ensures { result ≡ cut_head (key depth) bytes.now }
 {
     let [first, ..] = bytes else {
-        return Fault::Short;
+        return Fault::Ends;
     };
     if depth == 0 && opens_list(*first) {
-        Fault::Refused(Reason::TooDeep, bytes.len())
+        Fault::Breaks(bytes.len(), Reason::TooDeep)
     } else if opens_text(*first) {
-        Fault::Short
+        Fault::Ends
     } else {
-        Fault::Refused(Reason::KeyNotText, bytes.len())
+        Fault::Breaks(bytes.len(), Reason::KeyNotText)
     }
 }
 
@@ -239,13 +239,13 @@ fn value_of(alloc: Global, depth: u32, bytes: &[u8]) -> Result<(Datum, &[u8]), D
 
 fn step_at(alloc: Global, bytes: &[u8], at: Place) -> Step
     requires { at.0 ≤ MAX_PLACE }
-    ensures { Answers result (step_of at.0 (front_of bytes.now)) }
+    ensures { Answers result (step_of at.0 (front bytes.now)) }
 {
     match value_of(alloc, MAX_NESTING, bytes) {
         Ok((value, rest)) => Step::Got(value, bytes.len() - rest.len()),
         Err(DecodeError::Memory) => Step::OutOfMemory,
-        Err(DecodeError::Fault(Fault::Short)) => Step::Short,
-        Err(DecodeError::Fault(Fault::Refused(reason, left))) => {
+        Err(DecodeError::Fault(Fault::Ends)) => Step::Short,
+        Err(DecodeError::Fault(Fault::Breaks(left, reason))) => {
             Step::Refused(Place(at.0 + (bytes.len() - left) as u64), reason)
         }
     }
@@ -266,7 +266,7 @@ pub fn decode(alloc: Global, bytes: &[u8], at: Place) -> Step
     // Short says that no value is spelled and no token is refused.
     ensures short { IfShort result (IsUndecided bytes.now) }
     // All of it as one equation.
-    ensures exact { Answers result (step_of at.0 (front_of bytes.now)) }
+    ensures exact { Answers result (step_of at.0 (front bytes.now)) }
 {
     step_at(alloc, bytes, at)
 }

@@ -6,13 +6,13 @@ ghost use Rattle.wire_base.specs.declared.reason.Reason.{Reason};
 ghost use Rattle.wire_base.specs.Values.{max_nesting, nesting};
 ghost use Rattle.pack_value.specs.Spelling.{IsSpelling};
 ghost use Rattle.pack_value.specs.Tokens.{IsRefused};
-ghost use Rattle.pack_value.specs.Answer.{IsAtFront, IsUndecided, front_of, found, short, broken};
+ghost use Rattle.pack_value.specs.Answer.{IsAtFront, IsUndecided, front, Whole, Short, Broken};
 ghost use Rattle.pack_value.specs.Shortest.{IsValue, lengths_fit, shortest};
 
 /// The shortest spelling is a spelling, and the value is read from it, whatever follows.
 pub fn shortest_is_read()
     ensures spelled { (t : Tree) → IsValue t → nesting t ≤ max_nesting → IsSpelling t (shortest t) }
-    ensures read { (t : Tree) (rest : List ℕ) → IsValue t → nesting t ≤ max_nesting → front_of (shortest t ++ rest) ≡ found t (length (shortest t)) }
+    ensures read { (t : Tree) (rest : List ℕ) → IsValue t → nesting t ≤ max_nesting → front (shortest t ++ rest) ≡ Whole t (length (shortest t)) }
 {}
 
 /// No spelling is a proper front of another, and no two values have one spelling.
@@ -32,9 +32,9 @@ pub fn refusals_stay()
     ensures unspelled { (bytes : List ℕ) (k n : ℕ) (r : Reason) (t : Tree) → IsRefused bytes k r → IsAtFront bytes t n → ⊥ }
 {}
 
-/// What `front_of` says, by the spellings and by the rules on tokens.
+/// What `front` says, by the spellings and by the rules on tokens.
 pub fn fronts_are_known()
-    ensures found { (bytes : List ℕ) (t : Tree) (n : ℕ) → (front_of bytes ≡ found t n) ↔ IsAtFront bytes t n }
-    ensures broken { (bytes : List ℕ) (k : ℕ) (r : Reason) → (front_of bytes ≡ broken k r) ↔ IsRefused bytes k r }
-    ensures short { (bytes : List ℕ) → (front_of bytes ≡ short) ↔ IsUndecided bytes }
+    ensures found { (bytes : List ℕ) (t : Tree) (n : ℕ) → (front bytes ≡ Whole t n) ↔ IsAtFront bytes t n }
+    ensures broken { (bytes : List ℕ) (k : ℕ) (r : Reason) → (front bytes ≡ Broken k r) ↔ IsRefused bytes k r }
+    ensures short { (bytes : List ℕ) → (front bytes ≡ Short) ↔ IsUndecided bytes }
 {}

@@ -4,7 +4,6 @@
 mod decoder;
 mod encode_fault;
 mod encoder;
-mod fault;
 mod laws;
 mod limits;
 mod step;
