@@ -16,7 +16,9 @@ use Rattle.rpc_items.specs.declared.messages.Message.{Message}
 use Rattle.rpc_items.specs.declared.messages.Message.TheVariants.{Request, Notification}
 use Rattle.rpc_items.specs.declared.messages.Message.TheVariants as message
 use Rattle.rpc_items.specs.Ids.{same_id}
-use Rattle.rpc_items.specs.Meanings.{Meaning, Serves, Turns, Calls, Mistakes, Unknown, meaning}
+use Rattle.rpc_items.specs.declared.methods.Meaning.{Meaning}
+use Rattle.rpc_items.specs.declared.methods.Meaning.TheVariants.{Serves, Turns, Calls, Mistakes, Unknown}
+use Rattle.rpc_items.specs.Meanings.{meaning}
 use Rattle.rpc_items.specs.Items.{RpcItem, Did, Got, End, Ask, Tell, Respond, Cancel, Report, TakeReport, Next, Abort, Invoke, Release, Forget, ended}
 use Rattle.rpc_items.specs.Produced.{Produced, produced_at}
 use Rattle.rpc_items.specs.OwnHandles.{own_live}

@@ -9,7 +9,9 @@ use Rattle.rpc_items.specs.declared.messages.Message.{Message}
 use Rattle.rpc_items.specs.declared.messages.Message.TheVariants.{Request, Notification}
 use Rattle.rpc_items.specs.declared.messages.Message.TheVariants as message
 use Rattle.rpc_items.specs.Ids.{same_id, numbered_id}
-use Rattle.rpc_items.specs.Meanings.{Meaning, Serves, Turns, Calls, meaning}
+use Rattle.rpc_items.specs.declared.methods.Meaning.{Meaning}
+use Rattle.rpc_items.specs.declared.methods.Meaning.TheVariants.{Serves, Turns, Calls}
+use Rattle.rpc_items.specs.Meanings.{meaning}
 use Rattle.rpc_items.specs.Items.{RpcItem, Did, Got, End, RpcCall, Ask, Tell, Respond, Cancel, Report, TakeReport, Next, Abort, Invoke, Release, Forget, ended}
 use Rattle.rpc_items.specs.Drawn.{asked, asked_by, drawn}
 use Rattle.rpc_items.specs.Produced.{Produced, produced_at}

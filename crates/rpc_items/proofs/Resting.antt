@@ -15,7 +15,9 @@ use Rattle.rpc_items.specs.declared.messages.Message.{Message}
 use Rattle.rpc_items.specs.declared.messages.Message.TheVariants.{Request, Notification}
 use Rattle.rpc_items.specs.declared.messages.Message.TheVariants as message
 use Rattle.rpc_items.specs.Keys.{same_bool, same_key, own_key, peer_key}
-use Rattle.rpc_items.specs.Meanings.{Meaning, Serves, Cancels, Reports, Releases, Calls, meaning}
+use Rattle.rpc_items.specs.declared.methods.Meaning.{Meaning}
+use Rattle.rpc_items.specs.declared.methods.Meaning.TheVariants.{Serves, Cancels, Reports, Releases, Calls}
+use Rattle.rpc_items.specs.Meanings.{meaning}
 use Rattle.rpc_items.specs.Items.{RpcItem, Did, Got, Release, Invoke, ended}
 use Rattle.rpc_items.specs.Made.{Made}
 use Rattle.rpc_items.specs.Outcomes.{request_named}

@@ -12,7 +12,9 @@ use Rattle.rpc_items.specs.declared.messages.Message.{Message}
 use Rattle.rpc_items.specs.declared.messages.Message.TheVariants.{Request, Notification}
 use Rattle.rpc_items.specs.declared.messages.Message.TheVariants as message
 use Rattle.rpc_items.specs.Ids.{same_id, numbered_id}
-use Rattle.rpc_items.specs.Meanings.{Meaning, Serves, Cancels, Reports, Releases, Calls, meaning}
+use Rattle.rpc_items.specs.declared.methods.Meaning.{Meaning}
+use Rattle.rpc_items.specs.declared.methods.Meaning.TheVariants.{Serves, Cancels, Reports, Releases, Calls}
+use Rattle.rpc_items.specs.Meanings.{meaning}
 use Rattle.rpc_items.specs.Items.{RpcItem, Got, is_running}
 use Rattle.rpc_items.specs.Drawn.{is_drawn}
 use Rattle.rpc_items.specs.Outcomes.{response_in, first_of, answer_to, is_unanswered, request_named}

@@ -14,7 +14,8 @@ use Rattle.rpc_items.specs.declared.messages.Params.TheVariants.{Named}
 use Rattle.rpc_items.specs.Ids.{whole_bound, numbered_id, id_in, id_value, count_value}
 use Rattle.rpc_items.specs.Keys.{other_side}
 use Rattle.rpc_items.specs.Methods.{cancel_request, progress, next_page, abort_pages, release_object, proxy_method}
-use Rattle.rpc_items.specs.Meanings.{Cancels, Reports, Turns, Aborts, Releases, Calls, Mistakes, Unknown, cancels_by, reports_by, turns_by, aborts_by, calls_by, meaning}
+use Rattle.rpc_items.specs.declared.methods.Meaning.TheVariants.{Cancels, Reports, Turns, Aborts, Releases, Calls, Mistakes, Unknown}
+use Rattle.rpc_items.specs.Meanings.{cancels_by, reports_by, turns_by, aborts_by, calls_by, meaning}
 
 pub cancels : (n : ℕ) → n < whole_bound → meaning cancel_request (Named ((codes "id", count_value n) ∷ [])) ≡ Cancels (numbered_id n)
 cancels n l = ap (λ b. cancels_by (if b then Some (numbered_id n) else None)) (lt-ltb n whole_bound l)

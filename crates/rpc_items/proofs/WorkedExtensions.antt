@@ -21,7 +21,8 @@ use Rattle.rpc_items.specs.declared.messages.Params.{Params}
 use Rattle.rpc_items.specs.declared.messages.Params.TheVariants as params
 use Rattle.rpc_items.specs.Keys.{own_key, peer_key}
 use Rattle.rpc_items.specs.Methods.{proxy_method}
-use Rattle.rpc_items.specs.Meanings.{Serves, Releases, Calls, Mistakes, Unknown, meaning}
+use Rattle.rpc_items.specs.declared.methods.Meaning.TheVariants.{Serves, Releases, Calls, Mistakes, Unknown}
+use Rattle.rpc_items.specs.Meanings.{meaning}
 use Rattle.rpc_items.specs.Items.{RpcItem, Did, Got, End, Ask, Respond, Cancel, Report, TakeReport, Next, Abort, Invoke, Release}
 use Rattle.rpc_items.specs.Reports.{reports}
 use Rattle.rpc_items.specs.Handles.{is_live}

@@ -8,7 +8,8 @@ use Rattle.wire_base.specs.declared.text.Id.TheVariants.{Number, Name}
 use Rattle.rpc_items.specs.declared.messages.Message.TheVariants as message
 use Rattle.wire_base.specs.Values.{nesting, holds_bytes}
 use Rattle.rpc_items.specs.Writing.{message_value}
-use Rattle.rpc_items.specs.Meanings.{Meaning, Serves, Turns, Calls, Mistakes, Unknown}
+use Rattle.rpc_items.specs.declared.methods.Meaning.{Meaning}
+use Rattle.rpc_items.specs.declared.methods.Meaning.TheVariants.{Serves, Turns, Calls, Mistakes, Unknown}
 use Rattle.rpc_items.specs.Items.{RpcItem}
 use Rattle.rpc_items.specs.Produced.{Produced, produced_at}
 use Rattle.rpc_items.specs.OwnHandles.{own_live}

@@ -4,7 +4,8 @@ use Rattle.wire_base.specs.declared.text.Id.{Id}
 use Rattle.wire_base.specs.Tree as tree
 use Rattle.rpc_items.specs.declared.messages.Message.{Message}
 use Rattle.rpc_items.specs.declared.messages.Message.TheVariants as message
-use Rattle.rpc_items.specs.Meanings.{Meaning, Serves, Cancels, Reports, Turns, Aborts, Releases, Calls, Mistakes, Unknown}
+use Rattle.rpc_items.specs.declared.methods.Meaning.{Meaning}
+use Rattle.rpc_items.specs.declared.methods.Meaning.TheVariants.{Serves, Cancels, Reports, Turns, Aborts, Releases, Calls, Mistakes, Unknown}
 use Rattle.rpc_items.specs.Items.{RpcItem}
 use Rattle.rpc_items.specs.Produced.{Produced, produced_at}
 use Rattle.rpc_items.specs.OwnHandles.{own_live}

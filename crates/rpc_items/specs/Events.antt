@@ -9,7 +9,9 @@ use Rattle.rpc_items.specs.declared.messages.Params.{Params}
 use Rattle.rpc_items.specs.declared.calls.RpcEvent.TheVariants as event
 use Rattle.rpc_items.specs.declared.calls.Target.TheVariants as target
 use Rattle.rpc_items.specs.declared.messages.Message.TheVariants as message
-use Rattle.rpc_items.specs.Meanings.{Meaning, Serves, Cancels, Reports, Releases, Calls, meaning}
+use Rattle.rpc_items.specs.declared.methods.Meaning.{Meaning}
+use Rattle.rpc_items.specs.declared.methods.Meaning.TheVariants.{Serves, Cancels, Reports, Releases, Calls}
+use Rattle.rpc_items.specs.Meanings.{meaning}
 use Rattle.rpc_items.specs.Items.{RpcItem}
 use Rattle.rpc_items.specs.Made.{Made, made}
 use Rattle.rpc_items.specs.Outcomes.{request_named}

@@ -4,25 +4,13 @@ use Rattle.wire_base.specs.Tree.{Tree}
 use Rattle.wire_base.specs.Find.{last_of}
 use Rattle.wire_base.specs.declared.text.Id.{Id}
 use Rattle.wire_base.specs.Tree as tree
-use Rattle.rpc_items.specs.declared.calls.HandleKey.{HandleKey}
+use Rattle.rpc_items.specs.declared.methods.Meaning.{Meaning}
+use Rattle.rpc_items.specs.declared.methods.Meaning.TheVariants.{Serves, Cancels, Reports, Turns, Aborts, Releases, Calls, Mistakes, Unknown}
 use Rattle.rpc_items.specs.declared.messages.Params.{Params}
 use Rattle.rpc_items.specs.declared.messages.Params.TheVariants.{Named}
 use Rattle.rpc_items.specs.declared.messages.Params.TheVariants as params
 use Rattle.rpc_items.specs.Ids.{whole_bound, id_in}
 use Rattle.rpc_items.specs.Methods.{cancel_request, progress, next_page, abort_pages, release_object, invoke_proxy, slash, after_front, is_reserved}
-
--- a method of the service, one of the extensions, an extension with other arguments, or a reserved method that isn't known;
--- a handle is named as the receiver names it
-pub data Meaning : Type 0 where
-  Serves : Meaning
-  Cancels : (id : Id) → Meaning
-  Reports : (token : Id) → (value : Tree) → Meaning
-  Turns : (token : Id) → Meaning
-  Aborts : (token : Id) → Meaning
-  Releases : (key : HandleKey) → Meaning
-  Calls : (handle : ℕ) → (method : List ℕ) → Meaning
-  Mistakes : Meaning
-  Unknown : Meaning
 
 -- the one argument, named or positional, where there is just that
 abbrev pub one_argument : (name : List ℕ) → Params → Option Tree

@@ -4,7 +4,9 @@ use Rattle.rpc_items.specs.declared.calls.HandleKey.{HandleKey}
 use Rattle.rpc_items.specs.declared.messages.Message.{Message}
 use Rattle.rpc_items.specs.declared.messages.Message.TheVariants.{Request, Notification}
 use Rattle.rpc_items.specs.Keys.{same_key, own_key}
-use Rattle.rpc_items.specs.Meanings.{Meaning, Releases, meaning}
+use Rattle.rpc_items.specs.declared.methods.Meaning.{Meaning}
+use Rattle.rpc_items.specs.declared.methods.Meaning.TheVariants.{Releases}
+use Rattle.rpc_items.specs.Meanings.{meaning}
 use Rattle.rpc_items.specs.Items.{Release, RpcItem, Did, Got, End}
 use Rattle.rpc_items.specs.Drawn.{with_number}
 use Rattle.rpc_items.specs.Made.{Made, made}

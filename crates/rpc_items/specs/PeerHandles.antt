@@ -10,7 +10,9 @@ use Rattle.rpc_items.specs.declared.messages.Message.TheVariants as message
 use Rattle.rpc_items.specs.Ids.{same_id}
 use Rattle.rpc_items.specs.Keys.{same_key, peer_key}
 use Rattle.rpc_items.specs.Objects.{Offered, offered_in, whole_arguments}
-use Rattle.rpc_items.specs.Meanings.{Meaning, Serves, meaning}
+use Rattle.rpc_items.specs.declared.methods.Meaning.{Meaning}
+use Rattle.rpc_items.specs.declared.methods.Meaning.TheVariants.{Serves}
+use Rattle.rpc_items.specs.Meanings.{meaning}
 use Rattle.rpc_items.specs.Items.{Respond, Release, RpcItem, Did, Got, End}
 use Rattle.rpc_items.specs.Outcomes.{first_of, request_named}
 use Rattle.rpc_items.specs.OwnHandles.{releases}

@@ -5,7 +5,9 @@ use Rattle.wire_base.specs.declared.text.Id.{Id}
 use Rattle.wire_base.specs.declared.text.Id.TheVariants.{Number}
 use Rattle.rpc_items.specs.declared.messages.Message.TheVariants.{Request, Notification}
 use Rattle.rpc_items.specs.Ids.{same_id, numbered_id}
-use Rattle.rpc_items.specs.Meanings.{Meaning, Turns, Aborts, meaning}
+use Rattle.rpc_items.specs.declared.methods.Meaning.{Meaning}
+use Rattle.rpc_items.specs.declared.methods.Meaning.TheVariants.{Turns, Aborts}
+use Rattle.rpc_items.specs.Meanings.{meaning}
 use Rattle.rpc_items.specs.Items.{RpcItem, Got, is_running}
 use Rattle.rpc_items.specs.Produced.{Produced, produced_at}
 use Rattle.rpc_items.specs.Pages.{first_values, page_after, are_left}

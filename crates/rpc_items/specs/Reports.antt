@@ -4,7 +4,9 @@ use Rattle.wire_base.specs.Tree.{Tree}
 use Rattle.rpc_items.specs.declared.messages.Message.{Message}
 use Rattle.rpc_items.specs.declared.messages.Message.TheVariants.{Request, Notification}
 use Rattle.rpc_items.specs.Ids.{same_id, numbered_id}
-use Rattle.rpc_items.specs.Meanings.{Meaning, Reports, meaning}
+use Rattle.rpc_items.specs.declared.methods.Meaning.{Meaning}
+use Rattle.rpc_items.specs.declared.methods.Meaning.TheVariants.{Reports}
+use Rattle.rpc_items.specs.Meanings.{meaning}
 use Rattle.rpc_items.specs.Items.{TakeReport, RpcItem, Did, Got}
 use Rattle.rpc_items.specs.Drawn.{Asked, asked_at}
 use Rattle.rpc_items.specs.Outcomes.{is_unanswered}

@@ -3,7 +3,9 @@ use Rattle.std.specs.Prelude.{List, [], ◌∷◌, Bool, true, false, if◌then�
 use Rattle.wire_base.specs.declared.text.Id.{Id}
 use Rattle.rpc_items.specs.declared.messages.Message.TheVariants.{Request}
 use Rattle.rpc_items.specs.Ids.{same_id}
-use Rattle.rpc_items.specs.Meanings.{Meaning, Serves, Calls, meaning}
+use Rattle.rpc_items.specs.declared.methods.Meaning.{Meaning}
+use Rattle.rpc_items.specs.declared.methods.Meaning.TheVariants.{Serves, Calls}
+use Rattle.rpc_items.specs.Meanings.{meaning}
 use Rattle.rpc_items.specs.Items.{Respond, RpcItem, Did, Got}
 use Rattle.rpc_items.specs.OwnHandles.{own_live}
 
