@@ -4,3 +4,4 @@ pub mod Reading
 pub mod Standing
 pub mod Answering
 pub mod After
+pub mod Passing
