@@ -60,7 +60,7 @@ pub(crate) fn signed(n: Whole) -> Option<i64>
 }
 
 /// The id that a value is, if it is one.
-pub(crate) fn id_in(alloc: Global, value: &Datum) -> Result<Option<Id>, OutOfMemory>
+pub fn id_in(alloc: Global, value: &Datum) -> Result<Option<Id>, OutOfMemory>
     ensures { IfOk result (λ id. id ≡ id_in value.now) }
 {
     match &value.node {
