@@ -9,7 +9,7 @@ use Rattle.message_framing.specs.declared.next_body.NextBody.{NextBody}
 use Rattle.message_framing.specs.declared.next_body.NextBody.TheVariants as next
 use Rattle.message_framing.specs.Front.{front}
 use Rattle.message_framing.specs.Unread.{Unread, with_piece, without_front}
-use Rattle.message_framing.specs.Answers.{Answers, Gives, RefusesAt}
+use Rattle.message_framing.specs.Answers.{Answers, Gives, HasMessage, RefusesAt, front_body}
 use Rattle.message_framing.specs.Reads.{First, Begins, Reads, Follows, given_with}
 use Rattle.message_framing.proofs.FrontLemmas.{whole_within, front_stays, broken_stays}
 
@@ -108,6 +108,20 @@ refuses-again (next.Refused at cause) old new place reason a h =
     let there : at ≡ place = place_is at place (omega (arith, a.0.place_is, h.place_is, offset)) in
     inl cc
 refuses-again next.OutOfMemory old new place reason a h = inr refl
+
+-- the message at the front is given up
+
+pub skip_within : (old : Unread) (start size : ℕ) → HasMessage start size old → start + size ≤ length old.rest
+skip_within old start size m = (whole_within old.framing old.rest start size m).1
+
+pub skip_reads : (old new : Unread) (start size : ℕ) (stream : List ℕ) (given : List Placed) → HasMessage start size old → new ≡ without_front (start + size) old → Reads old stream given → Reads new stream (given ++ front_body start size old ∷ [])
+skip_reads old new start size stream given m e h =
+    let then = without_front (start + size) old in
+    let a : Gives old then (record { 0 = old.at + start }) (take size (drop start old.rest)) = record { start = start; size = size; whole = m; place_is = refl; body_is = refl; then = refl } in
+    rw e (reads-body old then (record { 0 = old.at + start }) (take size (drop start old.rest)) stream given a h)
+
+pub skip_refuses : (old new : Unread) (start size : ℕ) (place : Place) (reason : Reason) → HasMessage start size old → RefusesAt old place reason → RefusesAt new place reason
+skip_refuses old new start size place reason m h = absurd (let e : Whole start size ≡ Broken h.offset reason = sym m ∙ h.broken in cc)
 
 pub shorter-body : (old new : Unread) (place : Place) (body : List ℕ) → Answers (next.Body place body) old new → length new.rest < length old.rest
 shorter-body old new place body a =

@@ -29,3 +29,11 @@ Answers (next.Body place body) old new = Gives old new place body
 Answers next.Short old new = (front old.framing old.rest ≡ Short) × (new ≡ old)
 Answers (next.Refused place reason) old new = RefusesAt old place reason × (new ≡ old)
 Answers next.OutOfMemory old new = new ≡ old
+
+-- a message stands whole at the front, its body of so many bytes behind so many of its head
+abbrev pub HasMessage : (start size : ℕ) → Unread → Type 0
+HasMessage start size reader = front reader.framing reader.rest ≡ Whole start size
+
+-- the body of that message, with the place of its first byte
+abbrev pub front_body : (start size : ℕ) → Unread → ℕ × List ℕ
+front_body start size reader = (reader.at + start, take size (drop start reader.rest))

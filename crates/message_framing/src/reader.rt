@@ -1,10 +1,10 @@
 //! A reader of bodies from a stream that comes in pieces.
 
-ghost use Rattle.message_framing.specs.Answers.{Answers, RefusesAt};
+ghost use Rattle.message_framing.specs.Answers.{Answers, HasMessage, RefusesAt, front_body};
 ghost use Rattle.message_framing.specs.Reads.{Follows, Reads, given_with};
 ghost use Rattle.message_framing.specs.Unread.{with_piece, without_front};
 ghost use Rattle.message_framing.specs.Front.{IsWithin, front};
-ghost use Rattle.std.specs.Prelude.{◌≡◌, ◌+◌, ◌<◌, ◌≤◌, ◌^◌, ◌++◌, ◌⊎◌, ℕ, List, [], length, take, drop, IfOk, OnErr, OnOk};
+ghost use Rattle.std.specs.Prelude.{◌≡◌, ◌+◌, ◌<◌, ◌≤◌, ◌^◌, ◌++◌, ◌⊎◌, ℕ, List, [], ◌∷◌, length, take, drop, IfOk, OnErr, OnOk};
 ghost use Rattle.wire_base.specs.declared.place.Place.{Place};
 ghost use Rattle.wire_base.specs.declared.reason.Reason.{Reason};
 
@@ -90,7 +90,7 @@ impl MessageReader {
             Front::Whole(start, size) => match self.body(start, size) {
                 Ok(body) => {
                     let place = Place(self.at + start as u64);
-                    self.skip(start + size);
+                    self.skip(start, size);
                     NextBody::Body(place, body)
                 }
                 Err(_) => NextBody::OutOfMemory,
@@ -111,8 +111,21 @@ impl MessageReader {
         front(self.framing, self.unread())
     }
 
+    /// Gives up the message at the front, whose body of so many bytes stands behind so many of its head: the reader goes on
+    /// behind it.
+    pub fn skip(&mut self, start: usize, size: usize)
+        requires { HasMessage start size self.old }
+        ensures value { self.new ≡ without_front (start + size) self.old }
+        ensures reads { (stream : List ℕ) (given : List (ℕ × List ℕ)) → Reads self.old stream given →
+            Reads self.new stream (given ++ front_body start size self.old ∷ []) }
+        // What is refused stays so: no message stands there.
+        ensures refuses { (place : Place) (reason : Reason) → RefusesAt self.old place reason → RefusesAt self.new place reason }
+    {
+        self.give(start, size);
+    }
+
     /// The bytes that weren't given.
-    fn unread(&self) -> &[u8]
+    pub fn unread(&self) -> &[u8]
         ensures { result.now ≡ self.now.rest }
     {
         &self.bytes[self.given..]
@@ -125,13 +138,22 @@ impl MessageReader {
         Blob::from_bytes(self.alloc, &self.unread()[start..start + size])
     }
 
-    /// So many bytes at the front are given: the reader goes on behind them.
-    fn skip(&mut self, size: usize)
-        requires { size ≤ length self.old.rest }
-        ensures { self.new ≡ without_front size self.old }
+    /// The place of the first byte that wasn't given.
+    pub fn place(&self) -> Place
+        ensures value { result.0 ≡ self.now.at }
+        ensures within { result.0 + length self.now.rest ≤ 2 ^ 62 }
     {
-        self.given += size;
-        self.at += size as u64;
+        Place(self.at)
+    }
+
+    /// So many bytes of a head and of its body at the front are given: the reader goes on behind them.
+    fn give(&mut self, start: usize, size: usize)
+        requires { start + size ≤ length self.old.rest }
+        ensures { self.new ≡ without_front (start + size) self.old }
+    {
+        let end = self.given + start + size;
+        self.at += (end - self.given) as u64;
+        self.given = end;
         self.forget_given();
     }
 

@@ -329,6 +329,42 @@ fn a_refusal_stays(rt: HostRuntime) -> Result<(), Fail> {
     Ok(())
 }
 
+/// What stands at the front, which is looked at before it is given up.
+fn taken(alloc: Global, reader: &mut MessageReader) -> Result<Option<Answer>, Fail> {
+    let Place(place) = reader.place();
+    match reader.front() {
+        Front::Whole(start, size) => {
+            let body = reader.unread()[start..start + size].to_vec(alloc)?;
+            reader.skip(start, size);
+            Ok(Some(Answer::Body(place + start as u64, body)))
+        }
+        Front::Broken(offset, reason) => Ok(Some(Answer::Refused(place + offset as u64, reason))),
+        Front::Short => Ok(None),
+    }
+}
+
+#[test]
+fn a_message_is_looked_at_before_it_is_given_up(rt: HostRuntime) -> Result<(), Fail> {
+    let alloc = rt.alloc();
+    let mut reader = MessageReader::new(alloc, Framing::Header);
+    fed(
+        &mut reader,
+        b"Content-Length: 1\r\n\r\nxContent-Length: 2\r\n\r\nyz",
+    )?;
+    let table: [(u64, &[u8]); 2] = [(21, b"x"), (43, b"yz")];
+    for (place, bytes) in table {
+        assert_eq!(rt;
+            taken(alloc, &mut reader)?,
+            Some(body(alloc, place, bytes)?)
+        );
+    }
+    assert_eq!(rt; taken(alloc, &mut reader)?, None);
+    fed(&mut reader, b"A\r\n\r\n")?;
+    let refused = taken(alloc, &mut reader)?;
+    assert_eq!(rt; refused, Some(Answer::Refused(45, Reason::BadHeader)));
+    Ok(())
+}
+
 fn wrapped(alloc: Global, framing: Framing, bodies: &[&[u8]]) -> Result<Vec<u8>, Fail> {
     let mut out = Vec::new(alloc);
     for body in bodies {
