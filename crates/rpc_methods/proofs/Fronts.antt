@@ -1,4 +1,4 @@
--- What follows a front is what a text without it is.
+-- What follows a front, where a text begins with it.
 use Rattle.std.specs.Prelude.{◌==◌, ◌≢◌, MatchOption, Option, Some, None}
 use Rattle.std.specs.Str.Pattern.{FindsTextPrefix, StripsPrefix}
 use Rattle.std.proofs.Common.{◌≡◌, ℕ, List, [], ◌∷◌, ◌++◌, refl, sym, ◌∙◌, ap, ap₂, inl, inr, eq-eqb}

@@ -11,7 +11,7 @@ range_from-requires c =
     λ _. IsCharBoundary-after_ascii c.args.text.now c.loop-count.count c.utf8.text within (omega (arith, slash))
 
 pub overflow_mul-handle : goal.overflow_mul-handle
-overflow_mul-handle c = omega (arith, handle_fits c.loop-count.handle c.loop-count.count 0 c.loop-count.invariant.1 c.if-count-lt-MOST_DIGITS.true (omega arith))
+overflow_mul-handle c = omega (arith, handle_fits c.loop-count.handle c.loop-count.count 0 c.loop-count.invariant.1 (omega arith) (omega arith))
 
 pub overflow_add-handle : goal.overflow_add-handle
-overflow_add-handle c = omega (arith, handle_fits c.loop-count.handle c.loop-count.count c.from.result c.loop-count.invariant.1 c.if-count-lt-MOST_DIGITS.true (omega arith))
+overflow_add-handle c = omega (arith, handle_fits c.loop-count.handle c.loop-count.count c.from.result c.loop-count.invariant.1 (omega arith) (omega arith))
