@@ -1,0 +1,28 @@
+-- A message as the bytes of a body.
+use Rattle.std.specs.Prelude.{ℕ, List, length, Bool, true, false}
+use Rattle.wire_base.specs.Tree.{Tree}
+use Rattle.json_value.specs.Json.{json_text}
+use Rattle.pack_value.specs.Shortest.{shortest}
+use Rattle.rpc_items.specs.declared.messages.Message.{Message}
+use Rattle.rpc_items.specs.Writing.{message_value}
+use Rattle.rpc_items.specs.Bodies.{Encoder}
+use Rattle.message_body.specs.declared.encoding.Encoding.{Encoding}
+use Rattle.message_body.specs.declared.encoding.Encoding.TheVariants.{Json, Pack}
+
+-- whether an encoding is JSON
+abbrev pub is_json : Encoding → Bool
+is_json Json = true
+is_json Pack = false
+
+-- a value as bytes: its compact JSON text, or its shortest spelling in MessagePack
+abbrev pub value_text : Encoding → Tree → List ℕ
+value_text Json t = json_text t
+value_text Pack t = shortest t
+
+-- how an encoding writes values
+abbrev pub encoder : Encoding → Encoder
+encoder encoding = record { json = is_json encoding; size = λ t. length (value_text encoding t) }
+
+-- a message as the bytes of a body
+abbrev pub body_text : Encoding → Message → List ℕ
+body_text encoding m = value_text encoding (message_value m)

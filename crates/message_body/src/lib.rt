@@ -1,0 +1,13 @@
+//! Bodies of messages: a message to bytes in an encoding, and back.
+#![tactic(auto)]
+
+mod encoding;
+mod fault;
+mod reader;
+mod writer;
+
+pub use encoding::Encoding;
+pub use fault::BodyFault;
+pub use reader::read;
+pub use rpc_items::{Message, Params};
+pub use writer::write;
