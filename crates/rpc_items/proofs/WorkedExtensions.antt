@@ -406,4 +406,4 @@ allowed_too : AreAllowed plain (Did (TakeReport 1) ∷ reported ∷ releases_own
 allowed_too = (refl, ((refl, refl), (refl, (refl, tt))))
 
 fair : IsFair plain
-fair = record { page = λ id page n s. refl; nil = λ id n. refl; fault = λ id code text n l. refl }
+fair = record { page = λ id page n s. refl; nil = λ id n. refl; fault = λ id code text n c l. refl }

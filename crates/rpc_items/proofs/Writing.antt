@@ -6,6 +6,7 @@ use Rattle.wire_base.specs.declared.refusal.Refusal.TheVariants as refusal
 use Rattle.wire_base.specs.declared.text.Id.{Id}
 use Rattle.wire_base.specs.declared.text.Id.TheVariants.{Number, Name}
 use Rattle.rpc_items.specs.declared.messages.Message.TheVariants as message
+use Rattle.rpc_items.specs.Ids.{is_id_number}
 use Rattle.wire_base.specs.Values.{nesting, holds_bytes}
 use Rattle.rpc_items.specs.Writing.{message_value}
 use Rattle.rpc_items.specs.declared.methods.Meaning.{Meaning}
@@ -34,9 +35,9 @@ done_fits : (k : Encoder) (id : Id) → IsFair k → IsNamed id → body_refusal
 done_fits k (Number z) f n = none_of (k.json && false) false _ (and_no k.json) refl (f.nil (Number z) n)
 done_fits k (Name s) f n = none_of (k.json && false) false _ (and_no k.json) refl (f.nil (Name s) n)
 
-fault_fits : (k : Encoder) (id : Id) (code : ℤ) (text : List ℕ) → IsFair k → IsNamed id → length text ≤ 16 → body_refusal k (message_value (fault id code text)) ≡ None
-fault_fits k (Number z) code text f n l = none_of (k.json && false) false _ (and_no k.json) refl (f.fault (Number z) code text n l)
-fault_fits k (Name s) code text f n l = none_of (k.json && false) false _ (and_no k.json) refl (f.fault (Name s) code text n l)
+fault_fits : (k : Encoder) (id : Id) (code : ℤ) (text : List ℕ) → IsFair k → IsNamed id → is_id_number code ≡ true → length text ≤ 16 → body_refusal k (message_value (fault id code text)) ≡ None
+fault_fits k (Number z) code text f n c l = none_of (k.json && false) false _ (and_no k.json) refl (f.fault (Number z) code text n c l)
+fault_fits k (Name s) code text f n c l = none_of (k.json && false) false _ (and_no k.json) refl (f.fault (Name s) code text n c l)
 
 or_false : (b : Bool) → (b || false) ≡ b
 or_false true = refl
@@ -67,7 +68,7 @@ turned_fits k id named items f a n = by (sequence_named named items) refl
 
     by : (token : Option ℕ) → sequence_named named items ≡ token → AreWritable k (turned id token items)
     by (Some token) e = to token (produced_at token items) (pages_fit k token items a (token_lives named items token e))
-    by None e = (fault_fits k id nothing_there (codes "no sequence") f n (omega arith), tt)
+    by None e = (fault_fits k id nothing_there (codes "no sequence") f n refl (omega arith), tt)
 
 pub automatic_fits : (k : Encoder) (id : Id) (m : Meaning) (items : List RpcItem) → IsFair k → AreAllowed k items → IsNamed id → AreWritable k (automatic id m items)
 automatic_fits k id Serves items f a n = tt
@@ -76,7 +77,7 @@ automatic_fits k id (Calls handle method) items f a n = by (own_live handle item
   where
     by : (b : Bool) → AreWritable k (if b then [] else fault id nothing_there (codes "no object") ∷ [])
     by true = tt
-    by false = (fault_fits k id nothing_there (codes "no object") f n (omega arith), tt)
-automatic_fits k id Mistakes items f a n = (fault_fits k id bad_arguments (codes "bad arguments") f n (omega arith), tt)
-automatic_fits k id Unknown items f a n = (fault_fits k id no_method (codes "no method") f n (omega arith), tt)
+    by false = (fault_fits k id nothing_there (codes "no object") f n refl (omega arith), tt)
+automatic_fits k id Mistakes items f a n = (fault_fits k id bad_arguments (codes "bad arguments") f n refl (omega arith), tt)
+automatic_fits k id Unknown items f a n = (fault_fits k id no_method (codes "no method") f n refl (omega arith), tt)
 automatic_fits k id m items f a n = (done_fits k id f n, tt)

@@ -1,11 +1,11 @@
 -- What laws say of pages and of the answers that a connection gives by itself.
-use Rattle.std.specs.Prelude.{◌≡◌, ◌≤◌, ℕ, ◌+◌, List, [], ◌∷◌, ◌++◌, length, false, not, ◌&&◌, nat_lt, Option, Some, None, ℤ}
+use Rattle.std.specs.Prelude.{◌≡◌, ◌≤◌, ℕ, ◌+◌, List, [], ◌∷◌, ◌++◌, length, true, false, not, ◌&&◌, nat_lt, Option, Some, None, ℤ}
 use Rattle.wire_base.specs.Tree.{Tree}
 use Rattle.wire_base.specs.declared.text.Id.{Id}
 use Rattle.wire_base.specs.Tree as tree
 use Rattle.rpc_items.specs.declared.messages.Message.{Message}
 use Rattle.rpc_items.specs.declared.messages.Message.TheVariants as message
-use Rattle.rpc_items.specs.Ids.{id_in, id_value}
+use Rattle.rpc_items.specs.Ids.{id_in, id_value, is_id_number}
 use Rattle.wire_base.specs.Values.{nesting, holds_bytes}
 use Rattle.rpc_items.specs.Writing.{message_value}
 use Rattle.rpc_items.specs.Produced.{Produced}
@@ -37,7 +37,7 @@ IsNamed id = id_in (id_value id) ≡ Some id
 pub record IsFair (k : Encoder) : Type 0 where
   pub page : (id : Id) (page : Tree) → IsNamed id → nat_lt most_page (k.size page) ≡ false → nat_lt most_body (k.size (message_value (message.Result id page))) ≡ false
   pub nil : (id : Id) → IsNamed id → nat_lt most_body (k.size (message_value (done id))) ≡ false
-  pub fault : (id : Id) (code : ℤ) (text : List ℕ) → IsNamed id → length text ≤ 16 → nat_lt most_body (k.size (message_value (fault id code text))) ≡ false
+  pub fault : (id : Id) (code : ℤ) (text : List ℕ) → IsNamed id → is_id_number code ≡ true → length text ≤ 16 → nat_lt most_body (k.size (message_value (fault id code text))) ≡ false
 
 -- each of these messages can be written
 abbrev pub AreWritable : Encoder → List Message → Type 0
