@@ -3,11 +3,13 @@
 
 mod encoding;
 mod fault;
+mod laws;
 mod reader;
 mod writer;
 
 pub use encoding::Encoding;
 pub use fault::BodyFault;
+pub use laws::readings_are_found;
 pub use reader::read;
 pub use rpc_items::{Message, Params};
 pub use writer::write;
