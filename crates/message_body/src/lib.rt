@@ -13,3 +13,6 @@ pub use laws::{encodings_are_fair, readings_are_found};
 pub use reader::read;
 pub use rpc_items::{Message, Params};
 pub use writer::write;
+
+#[cfg(test)]
+mod tests;
