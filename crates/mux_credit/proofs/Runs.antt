@@ -1,11 +1,12 @@
 -- The credit law holds of every run.
-use Rattle.std.specs.Prelude.{ℕ, ◌+◌, ◌-◌, List, [], ◌∷◌, ◌++◌, length, take, drop, Bool, true, false, not, ◌&&◌, nat_le, if◌then◌else◌, Option, Some, None}
+use Rattle.std.specs.Prelude.{ℕ, ◌+◌, ◌-◌, List, [], ◌∷◌, ◌++◌, length, map, take, drop, Bool, true, false, not, ◌&&◌, nat_le, if◌then◌else◌, Option, Some, None}
 use Rattle.std.specs.Str.{bytes_eq}
 use Rattle.std.proofs.Common.{◌≡◌, refl, sym, ◌∙◌, ap, subst, inl, inr, arith, length-append}
 use Rattle.std.proofs.lemmas.Bool.{cases_Bool}
 use Rattle.std.proofs.lemmas.Slice.Eq.{bytes_eq-Decides}
 use Rattle.wire_base.specs.declared.reason.Reason.TheVariants as reason
 use Rattle.wire_base.specs.declared.refusal.Refusal.{Refusal}
+use Rattle.wire_base.specs.declared.state.Cause.{Cause}
 use Rattle.wire_base.specs.declared.state.Cause.TheVariants as cause
 use Rattle.frame_text.specs.Hello.{hello}
 use Rattle.mux_items.specs.declared.call.Call.{Call}
@@ -21,9 +22,10 @@ use Rattle.mux_items.specs.Refusals.{is_ready}
 use Rattle.mux_items.specs.Applying.{IsTaken, apply_frame, item_of_frame, lacks_room, place_at}
 use Rattle.mux_items.proofs.Newer.{ready_more}
 use Rattle.mux_items.proofs.Order.{ordered}
-use Rattle.mux_run.specs.Run.{RunSide, World, Terms, SideTerms, terms_at_a, terms_at_b, turned, out, greeting_size, whole_frames, next_frames, place_after, greet, greeted, apply_frames, settled, added, is_spent, delivered_to, ended_side, side_after, side_of, happens_at, happens, start, run_from, run}
+use Rattle.mux_run.specs.Run.{RunSide, World, Terms, SideTerms, terms_at_a, terms_at_b, turned, out, greeting_size, whole_frames, next_frames, place_after, greet, greeted, apply_frames, settled, added, is_spent, delivered_to, stopped, side_after, side_of, happens_at, start}
 use Rattle.mux_run.specs.Between.{ahead, Between}
-use Rattle.mux_run.specs.Moments.{IsMoment, IsMomentOf}
+use Rattle.mux_run.specs.Moments.{IsMoment}
+use Rattle.mux_run.specs.Spending.{RunStep, Makes, Spends, comes, come_from, run_through, IsMomentThrough}
 use Rattle.mux_run.specs.Linked.{Joined}
 use Rattle.mux_run.specs.Fed.{IsFed, AreFed}
 use Rattle.mux_run.specs.declared.steps.Side.{Side}
@@ -33,11 +35,11 @@ use Rattle.mux_run.specs.declared.steps.Step.TheVariants as step
 use Rattle.mux_run.proofs.WholeFrames.{whole_all}
 use Rattle.mux_run.proofs.Growing.{greeted_grown, next_front, apply_frames_more, apply_frames_stopped}
 use Rattle.mux_run.proofs.Between.{turned_between, between_grown, between_called, applied_is, between_next}
-use Rattle.mux_run.proofs.Links.{joined_between, happens_joined, turned_joined, fresh_joined, run_joined}
-use Rattle.mux_run.proofs.Moments.{moments_between}
-use Rattle.mux_run.proofs.Fed.{turned_fed, run_fed}
+use Rattle.mux_run.proofs.Links.{joined_between, comes_joined, turned_joined, fresh_joined, through_joined}
+use Rattle.mux_run.proofs.Moments.{through_between, made_through, moment_through}
+use Rattle.mux_run.proofs.Fed.{turned_fed, through_fed}
 use Rattle.mux_credit.specs.Credit.{IsDelivered}
-use Rattle.mux_credit.specs.Runs.{IsEndedWell, KeepsCreditWay, KeepsCredit, IsQuietSide, IsQuiet, IsAllDelivered, KeepsCreditRun}
+use Rattle.mux_credit.specs.Runs.{IsEndedWell, KeepsCreditWay, KeepsCredit, IsQuietSide, IsQuiet, IsAllDelivered, KeepsCreditRun, KeepsCreditThrough}
 use Rattle.mux_credit.proofs.Next.{takes_next}
 use Rattle.mux_credit.proofs.Credit.{has_credit}
 use Rattle.mux_credit.proofs.Quiet.{delivered}
@@ -119,13 +121,13 @@ delivered_well w n x y b h = elim (is_running x.items) as (λ r. IsEndedWell w (
   | false ↦ h
 ]
 
-ended_well : (w : SideTerms) (x : RunSide) → IsEndedWell w x.items → IsEndedWell w (ended_side x).items
-ended_well w x h = elim (is_running x.items) as (λ r. IsEndedWell w (if r then record { items = End cause.InputEnded ∷ x.items; delivered = x.delivered } else x).items) [ true ↦ h | false ↦ h ]
+stopped_well : (w : SideTerms) (x : RunSide) → IsEndedWell w x.items → (cause : Cause) → IsEndedWell w (End cause ∷ x.items) → IsEndedWell w (stopped cause x).items
+stopped_well w x h cause h_ended = elim (is_running x.items) as (λ r. IsEndedWell w (if r then record { items = End cause ∷ x.items; delivered = x.delivered } else x).items) [ true ↦ h_ended | false ↦ h ]
 
 side_well : (w : SideTerms) (s : Step) (x y : RunSide) → Between w.version x.items y.items → IsEndedWell w x.items → IsEndedWell w (side_after w s x y).items
 side_well w (step.Call side c) x y b h = settled_well w x.delivered (called w.version c x.items) y (between_called w.version c x.items y.items b) (called_well w c x.items h)
 side_well w (step.Deliver side n) x y b h = delivered_well w n x y b h
-side_well w (step.End side) x y b h = ended_well w x h
+side_well w (step.End side) x y b h = stopped_well w x h cause.InputEnded h
 
 record AreEndedWell (terms : Terms) (w : World) : Type 0 where
   a : IsEndedWell (terms_at_a terms) w.a.items
@@ -135,12 +137,17 @@ happens_well : (terms : Terms) (s : Step) (side : Side) (w : World) → Joined (
 happens_well terms s A w j h = record { a = side_well (terms_at_a terms) s w.a w.b (joined_between (terms_at_a terms) w.a w.b j) h.a; b = h.b }
 happens_well terms s B w j h = record { a = h.a; b = side_well (terms_at_b terms) s w.b w.a (joined_between (terms_at_b terms) w.b w.a (turned_joined (terms_at_a terms) w.a w.b j)) h.b }
 
-run_from_well : (terms : Terms) (w : World) (steps : List Step) → Joined (terms_at_a terms) w.a w.b → AreEndedWell terms w → AreEndedWell terms (run_from terms w steps)
-run_from_well terms w [] j h = h
-run_from_well terms w (s ∷ steps) j h = run_from_well terms (happens terms s w) steps (happens_joined terms s (side_of s) w j) (happens_well terms s (side_of s) w j h)
+comes_well : (terms : Terms) (s : RunStep) (w : World) → Joined (terms_at_a terms) w.a w.b → AreEndedWell terms w → AreEndedWell terms (comes terms s w)
+comes_well terms (Makes s) w j h = happens_well terms s (side_of s) w j h
+comes_well terms (Spends A) w j h = record { a = stopped_well (terms_at_a terms) w.a h.a cause.Spent h.a; b = h.b }
+comes_well terms (Spends B) w j h = record { a = h.a; b = stopped_well (terms_at_b terms) w.b h.b cause.Spent h.b }
 
-run_well : (terms : Terms) (steps : List Step) → AreEndedWell terms (run terms steps)
-run_well terms steps = run_from_well terms start steps (fresh_joined (terms_at_a terms)) (record { a = tt; b = tt })
+come_from_well : (terms : Terms) (w : World) (steps : List RunStep) → Joined (terms_at_a terms) w.a w.b → AreEndedWell terms w → AreEndedWell terms (come_from terms w steps)
+come_from_well terms w [] j h = h
+come_from_well terms w (s ∷ steps) j h = come_from_well terms (comes terms s w) steps (comes_joined terms s w j) (comes_well terms s w j h)
+
+through_well : (terms : Terms) (steps : List RunStep) → AreEndedWell terms (run_through terms steps)
+through_well terms steps = come_from_well terms start steps (fresh_joined (terms_at_a terms)) (record { a = tt; b = tt })
 
 -- and so at every moment
 
@@ -158,12 +165,12 @@ moment_well w older newer items m h = well_older w m.later items (subst (IsEnded
 way_keeps : (w : SideTerms) (x y : List Item) → Between w.version x y → IsEndedWell w x → KeepsCreditWay w x y
 way_keeps w x y b h = record { credit = λ c. has_credit w.version c x y b; order = λ c. ordered w.version c y b.allowed_peer; takes = takes_next w.version x y b; well = h }
 
-moment_keeps : (terms : Terms) (steps : List Step) (a b : List Item) → IsMomentOf terms steps a b → KeepsCredit terms a b
+moment_keeps : (terms : Terms) (steps : List RunStep) (a b : List Item) → IsMomentThrough terms steps a b → KeepsCredit terms a b
 moment_keeps terms steps a b m =
-    let together = moments_between terms steps a b m in
-    let older = run terms (take m.made steps) in
-    let newer = run terms (take (m.made + 1) steps) in
-    let well = run_well terms (take (m.made + 1) steps) in
+    let together = through_between terms steps a b m in
+    let older = run_through terms (take m.made steps) in
+    let newer = run_through terms (take (m.made + 1) steps) in
+    let well = through_well terms (take (m.made + 1) steps) in
     record {
       to_a = way_keeps (terms_at_a terms) a b together (moment_well (terms_at_a terms) older.a.items newer.a.items a m.at_a well.a);
       to_b = way_keeps (terms_at_b terms) b a (turned_between terms.version a b together) (moment_well (terms_at_b terms) older.b.items newer.b.items b m.at_b well.b);
@@ -191,8 +198,17 @@ quiet_world terms w j f q = record {
   to_b = λ c live live_peer. quiet_delivered (terms_at_b terms) c w.b w.a (turned_joined (terms_at_a terms) w.a w.b j) (turned_fed (terms_at_a terms) w.a w.b f) q.b q.a live live_peer;
 }
 
-pub run_keeps_credit : (terms : Terms) (steps : List Step) → KeepsCreditRun terms steps
-run_keeps_credit terms steps = record {
+pub through_keeps_credit : (terms : Terms) (steps : List RunStep) → KeepsCreditThrough terms steps
+through_keeps_credit terms steps = record {
   always = moment_keeps terms steps;
-  quiet = λ made q. quiet_world terms (run terms (take made steps)) (run_joined terms (take made steps)) (run_fed terms (take made steps)) q;
+  quiet = λ made q. quiet_world terms (run_through terms (take made steps)) (through_joined terms (take made steps)) (through_fed terms (take made steps)) q;
 }
+
+pub run_keeps_credit : (terms : Terms) (steps : List Step) → KeepsCreditRun terms steps
+run_keeps_credit terms steps =
+    let keeps = through_keeps_credit terms (map Makes steps) in
+    record {
+      always = λ a b m. keeps.always a b (moment_through terms steps a b m);
+      quiet = λ made q. (let same = made_through terms steps made in
+          subst (IsAllDelivered terms) (sym same) (keeps.quiet made (subst (IsQuiet terms) same q)));
+    }

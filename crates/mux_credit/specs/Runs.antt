@@ -8,7 +8,8 @@ use Rattle.mux_items.specs.Items.{Item, End}
 use Rattle.mux_items.specs.Lists.{unread, is_live}
 use Rattle.mux_items.specs.Order.{IsOrdered}
 use Rattle.mux_run.specs.Run.{RunSide, runs, World, Terms, SideTerms, terms_at_a, terms_at_b, out, run}
-use Rattle.mux_run.specs.Moments.{IsMomentOf}
+use Rattle.mux_run.specs.Moments.{IsMomentIn}
+use Rattle.mux_run.specs.Spending.{RunStep, run_through}
 use Rattle.mux_run.specs.declared.steps.Step.{Step}
 use Rattle.mux_credit.specs.Credit.{HasCredit, TakesNext, IsDelivered}
 
@@ -46,7 +47,15 @@ pub record IsAllDelivered (terms : Terms) (w : World) : Type 0 where
   pub to_a : (c : ChannelKey) → is_live terms.version c w.a.items ≡ true → is_live terms.version (other_key c) w.b.items ≡ true → IsDelivered terms.version c w.a.items w.b.items
   pub to_b : (c : ChannelKey) → is_live terms.version c w.b.items ≡ true → is_live terms.version (other_key c) w.a.items ≡ true → IsDelivered terms.version c w.b.items w.a.items
 
--- credit is kept at every moment, and wherever the run is quiet after a step, all is delivered
-pub record KeepsCreditRun (terms : Terms) (steps : List Step) : Type 0 where
-  pub always : (a b : List Item) → IsMomentOf terms steps a b → KeepsCredit terms a b
-  pub quiet : (made : ℕ) → IsQuiet terms (run terms (take made steps)) → IsAllDelivered terms (run terms (take made steps))
+-- credit is kept at every moment, and wherever a world after so many steps is quiet, all is delivered
+pub record KeepsCreditIn (terms : Terms) (worlds : ℕ → World) : Type 0 where
+  pub always : (a b : List Item) → IsMomentIn worlds a b → KeepsCredit terms a b
+  pub quiet : (made : ℕ) → IsQuiet terms (worlds made) → IsAllDelivered terms (worlds made)
+
+-- so it is in the run of these steps
+abbrev pub KeepsCreditRun : Terms → List Step → Type 0
+KeepsCreditRun terms steps = KeepsCreditIn terms (λ made. run terms (take made steps))
+
+-- and so where ends are spent
+abbrev pub KeepsCreditThrough : Terms → List RunStep → Type 0
+KeepsCreditThrough terms steps = KeepsCreditIn terms (λ made. run_through terms (take made steps))

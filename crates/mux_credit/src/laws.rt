@@ -9,9 +9,10 @@ ghost use Rattle.mux_items.specs.Refusals.{is_ready};
 ghost use Rattle.mux_items.specs.Applying.{apply_frame};
 ghost use Rattle.mux_run.specs.Run.{Terms};
 ghost use Rattle.mux_run.specs.Between.{ahead, Between};
+ghost use Rattle.mux_run.specs.Spending.{RunStep};
 ghost use Rattle.mux_run.specs.declared.steps.Step.{Step};
 ghost use Rattle.mux_credit.specs.Credit.{HasCredit, TakesNext};
-ghost use Rattle.mux_credit.specs.Runs.{KeepsCreditRun};
+ghost use Rattle.mux_credit.specs.Runs.{KeepsCreditRun, KeepsCreditThrough};
 
 /// Between two ends no credit is lost, neither refuses what the other sent, and taking it keeps them so.
 pub fn two_ends_keep_credit()
@@ -22,7 +23,8 @@ pub fn two_ends_keep_credit()
         → Between v (apply_frame v place (flip f).key f.body x) y }
 {}
 
-/// The credit law holds of every run.
+/// The credit law holds of every run, also of one in which an end is spent.
 pub fn every_run_keeps_credit()
-    ensures { (terms : Terms) (steps : List Step) → KeepsCreditRun terms steps }
+    ensures run { (terms : Terms) (steps : List Step) → KeepsCreditRun terms steps }
+    ensures through { (terms : Terms) (steps : List RunStep) → KeepsCreditThrough terms steps }
 {}

@@ -19,9 +19,10 @@ use Rattle.mux_items.specs.Refusals.{is_ready, is_greeted, frame_refusal}
 use Rattle.mux_items.specs.Applying.{apply_frame, after_frame, lacks_room, place_at}
 use Rattle.mux_items.specs.Parties.{party_by}
 use Rattle.mux_items.specs.Calls.{call_refusal, item_of_call, unless_refused, called}
-use Rattle.mux_run.specs.Run.{RunSide, World, Terms, SideTerms, terms_at_a, terms_at_b, turned, greeting_size, whole_frames, next_frames, place_after, greet, greeted, apply_frames, settled, added, is_spent, delivered_to, side_after, side_of, happens_at, happens, fresh, start, run_from, run}
+use Rattle.mux_run.specs.Run.{RunSide, World, Terms, SideTerms, terms_at_a, terms_at_b, turned, greeting_size, whole_frames, next_frames, place_after, greet, greeted, apply_frames, settled, added, is_spent, delivered_to, stopped, side_after, side_of, happens_at, fresh, start, run}
 use Rattle.mux_run.specs.Linked.{Linked, Joined}
 use Rattle.mux_run.specs.Fed.{LieWithin, IsFed, AreFed}
+use Rattle.mux_run.specs.Spending.{RunStep, Makes, Spends, spent_at, comes, come_from, run_through}
 use Rattle.mux_run.specs.declared.steps.Side.{Side}
 use Rattle.mux_run.specs.declared.steps.Side.TheVariants.{A, B}
 use Rattle.mux_items.specs.declared.call.Call.{Call}
@@ -29,8 +30,8 @@ use Rattle.mux_items.specs.declared.call.Call.TheVariants as call
 use Rattle.mux_run.specs.declared.steps.Step.{Step}
 use Rattle.mux_run.specs.declared.steps.Step.TheVariants as step
 use Rattle.mux_run.proofs.WholeFrames.{whole_more, whole_same}
-use Rattle.mux_run.proofs.Growing.{Grown, sent_grows, greeted_grown, called_grown, frames_applied, apply_frames_more, apply_frames_stopped, side_after_grown}
-use Rattle.mux_run.proofs.Links.{happens_joined, turned_joined, fresh_joined}
+use Rattle.mux_run.proofs.Growing.{Grown, sent_grows, greeted_grown, called_grown, frames_applied, apply_frames_more, apply_frames_stopped, stopped_grown, side_after_grown}
+use Rattle.mux_run.proofs.Links.{comes_joined, turned_joined, fresh_joined, through_made}
 
 -- frames and calls leave the greeting
 
@@ -162,6 +163,9 @@ lie_same w given items after y same kept l =
 pub ended_fed : (w : SideTerms) (cause : Cause) (x y : RunSide) → IsFed w x y → IsFed w (record { items = End cause ∷ x.items; delivered = x.delivered }) y
 ended_fed w cause x y f = record { lie = lie_same w x.delivered x.items (End cause ∷ x.items) y refl refl f.lie; all = λ runs r. cc; short = λ runs u. cc }
 
+stopped_fed : (w : SideTerms) (cause : Cause) (x y : RunSide) → IsFed w x y → IsFed w (stopped cause x) y
+stopped_fed w cause x y f = elim (is_running x.items) as (λ b. IsFed w (if b then record { items = End cause ∷ x.items; delivered = x.delivered } else x) y) [ true ↦ ended_fed w cause x y f | false ↦ f ]
+
 pub delivered_fed : (w : SideTerms) (n : ℕ) (x y : RunSide) → IsFed w x y → IsFed w (delivered_to w n x y) y
 delivered_fed w n x y f = elim (is_running x.items) as (λ b. IsFed w (if not b then x else if is_spent w n x y then record { items = End cause.Spent ∷ x.items; delivered = x.delivered } else settled w (x.delivered + added w n x y) x.items y) y) [
   | true ↦ elim (is_spent w n x y) as (λ b. IsFed w (if b then record { items = End cause.Spent ∷ x.items; delivered = x.delivered } else settled w (x.delivered + added w n x y) x.items y) y) [
@@ -178,7 +182,7 @@ side_after_fed w (step.Call side c) x y f =
     let same : got after ≡ got x.items = (called_grown w.version c x.items).applied ∙ append-nil (got x.items) in
     settled_fed w x.delivered after y (lie_same w x.delivered x.items after y same (greeting_called w.version c x.items) f.lie)
 side_after_fed w (step.Deliver side n) x y f = delivered_fed w n x y f
-side_after_fed w (step.End side) x y f = elim (is_running x.items) as (λ b. IsFed w (if b then record { items = End cause.InputEnded ∷ x.items; delivered = x.delivered } else x) y) [ true ↦ ended_fed w cause.InputEnded x y f | false ↦ f ]
+side_after_fed w (step.End side) x y f = stopped_fed w cause.InputEnded x y f
 
 -- and so does a step of y, as frames behind those that reach over the bytes don't count
 pub fed_grows : (w : SideTerms) (x y y' : RunSide) (frames : List ChannelFrame) → Grown w.version y.items y'.items frames → Linked w x y → IsFed w x y → IsFed w x y'
@@ -209,9 +213,23 @@ happens_fed terms s A w j f = side_after_both (terms_at_a terms) s w.a w.b j f
 happens_fed terms s B w j f =
     turned_fed (terms_at_b terms) (side_after (terms_at_b terms) s w.b w.a) w.a (side_after_both (terms_at_b terms) s w.b w.a (turned_joined (terms_at_a terms) w.a w.b j) (turned_fed (terms_at_a terms) w.a w.b f))
 
-run_from_fed : (terms : Terms) (w : World) (steps : List Step) → Joined (terms_at_a terms) w.a w.b → AreFed (terms_at_a terms) w.a w.b → AreFed (terms_at_a terms) (run_from terms w steps).a (run_from terms w steps).b
-run_from_fed terms w [] j f = f
-run_from_fed terms w (s ∷ steps) j f = run_from_fed terms (happens terms s w) steps (happens_joined terms s (side_of s) w j) (happens_fed terms s (side_of s) w j f)
+stopped_both : (w : SideTerms) (cause : Cause) (x y : RunSide) → Joined w x y → AreFed w x y → AreFed w (stopped cause x) y
+stopped_both w cause x y j f =
+    let on = stopped_grown w.version cause x in
+    record { into = stopped_fed w cause x y f.into; back = fed_grows (turned w) y x (stopped cause x) on.0 on.1 j.back f.back }
+
+spent_fed : (terms : Terms) (side : Side) (w : World) → Joined (terms_at_a terms) w.a w.b → AreFed (terms_at_a terms) w.a w.b → AreFed (terms_at_a terms) (spent_at side w).a (spent_at side w).b
+spent_fed terms A w j f = stopped_both (terms_at_a terms) cause.Spent w.a w.b j f
+spent_fed terms B w j f =
+    turned_fed (terms_at_b terms) (stopped cause.Spent w.b) w.a (stopped_both (terms_at_b terms) cause.Spent w.b w.a (turned_joined (terms_at_a terms) w.a w.b j) (turned_fed (terms_at_a terms) w.a w.b f))
+
+comes_fed : (terms : Terms) (s : RunStep) (w : World) → Joined (terms_at_a terms) w.a w.b → AreFed (terms_at_a terms) w.a w.b → AreFed (terms_at_a terms) (comes terms s w).a (comes terms s w).b
+comes_fed terms (Makes s) w j f = happens_fed terms s (side_of s) w j f
+comes_fed terms (Spends side) w j f = spent_fed terms side w j f
+
+come_from_fed : (terms : Terms) (w : World) (steps : List RunStep) → Joined (terms_at_a terms) w.a w.b → AreFed (terms_at_a terms) w.a w.b → AreFed (terms_at_a terms) (come_from terms w steps).a (come_from terms w steps).b
+come_from_fed terms w [] j f = f
+come_from_fed terms w (s ∷ steps) j f = come_from_fed terms (comes terms s w) steps (comes_joined terms s w j) (comes_fed terms s w j f)
 
 fresh_ready : (v : Version) (nonce : List ℕ) → is_ready v [] ≡ true → length (hello v nonce) ≤ 0
 fresh_ready version.One nonce e = cc
@@ -231,5 +249,9 @@ fresh_fed w = record {
 }
 
 -- what either side applied lies in what it was given, and while it runs it applied all that is whole
+
+pub through_fed : (terms : Terms) (steps : List RunStep) → AreFed (terms_at_a terms) (run_through terms steps).a (run_through terms steps).b
+through_fed terms steps = come_from_fed terms start steps (fresh_joined (terms_at_a terms)) (record { into = fresh_fed (terms_at_a terms); back = fresh_fed (terms_at_b terms) })
+
 pub run_fed : (terms : Terms) (steps : List Step) → AreFed (terms_at_a terms) (run terms steps).a (run terms steps).b
-run_fed terms steps = run_from_fed terms start steps (fresh_joined (terms_at_a terms)) (record { into = fresh_fed (terms_at_a terms); back = fresh_fed (terms_at_b terms) })
+run_fed terms steps = subst (λ w. AreFed (terms_at_a terms) w.a w.b) (through_made terms steps) (through_fed terms (map Makes steps))

@@ -22,7 +22,7 @@ use Rattle.mux_items.specs.Applying.{Allowed, IsGreeting, IsTaken, is_parity, ap
 use Rattle.mux_items.specs.Parties.{is_greater, party_by}
 use Rattle.mux_items.specs.Calls.{call_refusal, item_of_call, unless_refused, called}
 use Rattle.mux_items.proofs.Newer.{sent-newer, ready_newer}
-use Rattle.mux_run.specs.Run.{RunSide, SideTerms, out, greeting_size, greet, greeted, apply_frames, whole_frames, next_frames, place_after, settled, added, is_spent, side_after}
+use Rattle.mux_run.specs.Run.{RunSide, SideTerms, out, greeting_size, greet, greeted, apply_frames, whole_frames, next_frames, place_after, settled, added, is_spent, stopped, side_after}
 use Rattle.mux_items.specs.declared.call.Call.{Call}
 use Rattle.mux_items.specs.declared.call.Call.TheVariants as call
 use Rattle.mux_run.specs.declared.steps.Step.{Step}
@@ -260,6 +260,14 @@ settled_grown w delivered items y = by (is_ready w.version after) refl
         (map flip on.done, grown_more w.version items after (apply_frames w.version place next after) [] (map flip on.done) (greeted_grown w delivered items) on.grown)
     by false unready = ([], greeted_grown w delivered items)
 
+-- an end that ends
+pub stopped_grown : (v : Version) (cause : Cause) (x : RunSide) → (frames : List ChannelFrame) × Grown v x.items (stopped cause x).items frames
+stopped_grown v cause x = by (is_running x.items) refl
+  where
+    by : (b : Bool) → is_running x.items ≡ b → (frames : List ChannelFrame) × Grown v x.items (if b then record { items = End cause ∷ x.items; delivered = x.delivered } else x).items frames
+    by true runs = ([], end_grown v cause x.items runs)
+    by false runs = ([], grown_none v x.items)
+
 -- a step of x only adds items
 pub side_after_grown : (w : SideTerms) (s : Step) (x y : RunSide) → (frames : List ChannelFrame) × Grown w.version x.items (side_after w s x y).items frames
 side_after_grown w (step.Call side c) x y =
@@ -275,8 +283,4 @@ side_after_grown w (step.Deliver side n) x y = by (is_running x.items) refl
     by : (b : Bool) → is_running x.items ≡ b → (frames : List ChannelFrame) × Grown w.version x.items (if not b then x else if is_spent w n x y then record { items = End cause.Spent ∷ x.items; delivered = x.delivered } else settled w (x.delivered + added w n x y) x.items y).items frames
     by true runs = within (is_spent w n x y) runs
     by false runs = ([], grown_none w.version x.items)
-side_after_grown w (step.End side) x y = by (is_running x.items) refl
-  where
-    by : (b : Bool) → is_running x.items ≡ b → (frames : List ChannelFrame) × Grown w.version x.items (if b then record { items = End cause.InputEnded ∷ x.items; delivered = x.delivered } else x).items frames
-    by true runs = ([], end_grown w.version cause.InputEnded x.items runs)
-    by false runs = ([], grown_none w.version x.items)
+side_after_grown w (step.End side) x y = stopped_grown w.version cause.InputEnded x

@@ -1,13 +1,15 @@
 -- The two sides of every run hang together.
 use Rattle.std.specs.Prelude.{if◌then◌else◌, not, Bool, true, false}
-use Rattle.std.proofs.Common.{◌≡◌, ℕ, ◌+◌, ◌≤◌, List, [], ◌∷◌, ◌++◌, length, map, refl, ap, arith, length-append, length-drop}
+use Rattle.std.proofs.Common.{◌≡◌, ℕ, ◌+◌, ◌≤◌, List, [], ◌∷◌, ◌++◌, length, map, refl, ap, subst, arith, length-append, length-drop}
+use Rattle.wire_base.specs.declared.state.Cause.{Cause}
 use Rattle.wire_base.specs.declared.state.Cause.TheVariants as cause
 use Rattle.mux_items.specs.Bodies.{flip, frame_texts}
 use Rattle.mux_items.specs.Items.{Item, End, is_running}
 use Rattle.mux_items.specs.Calls.{called}
-use Rattle.mux_run.specs.Run.{RunSide, World, Terms, SideTerms, terms_at_a, terms_at_b, turned, out, settled, added, is_spent, delivered_to, ended_side, side_after, side_of, happens_at, happens, fresh, start, run_from, run}
+use Rattle.mux_run.specs.Run.{RunSide, World, Terms, SideTerms, terms_at_a, terms_at_b, turned, out, settled, added, is_spent, delivered_to, stopped, side_after, side_of, happens_at, happens, fresh, start, run_from, run}
 use Rattle.mux_run.specs.Between.{ahead, Between}
 use Rattle.mux_run.specs.Linked.{Linked, Joined}
+use Rattle.mux_run.specs.Spending.{RunStep, Makes, Spends, spent_at, comes, come_from, run_through}
 use Rattle.mux_run.specs.declared.steps.Side.{Side}
 use Rattle.mux_run.specs.declared.steps.Side.TheVariants.{A, B}
 use Rattle.mux_items.specs.declared.call.Call.{Call}
@@ -59,11 +61,11 @@ delivered_joined w n x y j = by (is_running x.items) refl
     by true runs = within (is_spent w n x y) runs
     by false runs = j
 
-pub ended_joined : (w : SideTerms) (x y : RunSide) → Joined w x y → Joined w (ended_side x) y
-ended_joined w x y j = by (is_running x.items) refl
+pub stopped_joined : (w : SideTerms) (cause : Cause) (x y : RunSide) → Joined w x y → Joined w (stopped cause x) y
+stopped_joined w cause x y j = by (is_running x.items) refl
   where
-    by : (b : Bool) → is_running x.items ≡ b → Joined w (if b then record { items = End cause.InputEnded ∷ x.items; delivered = x.delivered } else x) y
-    by true runs = joined_grown w x y (End cause.InputEnded ∷ x.items) j (end_grown w.version cause.InputEnded x.items runs)
+    by : (b : Bool) → is_running x.items ≡ b → Joined w (if b then record { items = End cause ∷ x.items; delivered = x.delivered } else x) y
+    by true runs = joined_grown w x y (End cause ∷ x.items) j (end_grown w.version cause x.items runs)
     by false runs = j
 
 -- a step of x keeps both ways
@@ -73,7 +75,7 @@ side_after_joined w (step.Call side c) x y j =
     let on = called_joined w c x y j in
     settled_joined w x.delivered called_side y on on.into.bound
 side_after_joined w (step.Deliver side n) x y j = delivered_joined w n x y j
-side_after_joined w (step.End side) x y j = ended_joined w x y j
+side_after_joined w (step.End side) x y j = stopped_joined w cause.InputEnded x y j
 
 -- the same sides, as the other side sees them
 pub turned_joined : (w : SideTerms) (x y : RunSide) → Joined w x y → Joined (turned w) y x
@@ -85,9 +87,17 @@ pub happens_joined : (terms : Terms) (s : Step) (side : Side) (w : World) → Jo
 happens_joined terms s A w j = side_after_joined (terms_at_a terms) s w.a w.b j
 happens_joined terms s B w j = turned_joined (terms_at_b terms) (side_after (terms_at_b terms) s w.b w.a) w.a (side_after_joined (terms_at_b terms) s w.b w.a (turned_joined (terms_at_a terms) w.a w.b j))
 
-pub run_from_joined : (terms : Terms) (w : World) (steps : List Step) → Joined (terms_at_a terms) w.a w.b → Joined (terms_at_a terms) (run_from terms w steps).a (run_from terms w steps).b
-run_from_joined terms w [] j = j
-run_from_joined terms w (s ∷ steps) j = run_from_joined terms (happens terms s w) steps (happens_joined terms s (side_of s) w j)
+pub spent_joined : (terms : Terms) (side : Side) (w : World) → Joined (terms_at_a terms) w.a w.b → Joined (terms_at_a terms) (spent_at side w).a (spent_at side w).b
+spent_joined terms A w j = stopped_joined (terms_at_a terms) cause.Spent w.a w.b j
+spent_joined terms B w j = turned_joined (terms_at_b terms) (stopped cause.Spent w.b) w.a (stopped_joined (terms_at_b terms) cause.Spent w.b w.a (turned_joined (terms_at_a terms) w.a w.b j))
+
+pub comes_joined : (terms : Terms) (s : RunStep) (w : World) → Joined (terms_at_a terms) w.a w.b → Joined (terms_at_a terms) (comes terms s w).a (comes terms s w).b
+comes_joined terms (Makes s) w j = happens_joined terms s (side_of s) w j
+comes_joined terms (Spends side) w j = spent_joined terms side w j
+
+come_from_joined : (terms : Terms) (w : World) (steps : List RunStep) → Joined (terms_at_a terms) w.a w.b → Joined (terms_at_a terms) (come_from terms w steps).a (come_from terms w steps).b
+come_from_joined terms w [] j = j
+come_from_joined terms w (s ∷ steps) j = come_from_joined terms (comes terms s w) steps (comes_joined terms s w j)
 
 pub fresh_linked : (w : SideTerms) → Linked w fresh fresh
 fresh_linked w = record { applied = refl; bound = omega arith; allowed = tt }
@@ -95,10 +105,27 @@ fresh_linked w = record { applied = refl; bound = omega arith; allowed = tt }
 pub fresh_joined : (w : SideTerms) → Joined w fresh fresh
 fresh_joined w = record { into = fresh_linked w; back = fresh_linked (turned w) }
 
+pub through_joined : (terms : Terms) (steps : List RunStep) → Joined (terms_at_a terms) (run_through terms steps).a (run_through terms steps).b
+through_joined terms steps = come_from_joined terms start steps (fresh_joined (terms_at_a terms))
+
+-- a run in which neither side is spent
+
+come_made : (terms : Terms) (w : World) (steps : List Step) → come_from terms w (map Makes steps) ≡ run_from terms w steps
+come_made terms w [] = refl
+come_made terms w (s ∷ steps) = come_made terms (happens terms s w) steps
+
+pub through_made : (terms : Terms) (steps : List Step) → run_through terms (map Makes steps) ≡ run terms steps
+through_made terms steps = come_made terms start steps
+
 pub run_joined : (terms : Terms) (steps : List Step) → Joined (terms_at_a terms) (run terms steps).a (run terms steps).b
-run_joined terms steps = run_from_joined terms start steps (fresh_joined (terms_at_a terms))
+run_joined terms steps = subst (λ w. Joined (terms_at_a terms) w.a w.b) (through_made terms steps) (through_joined terms (map Makes steps))
 
 -- one more step at the end
+
+pub come_from-push : (terms : Terms) (w : World) (steps : List RunStep) (s : RunStep) → come_from terms w (steps ++ s ∷ []) ≡ comes terms s (come_from terms w steps)
+come_from-push terms w [] s = refl
+come_from-push terms w (t ∷ steps) s = come_from-push terms (comes terms t w) steps s
+
 pub run_from-push : (terms : Terms) (w : World) (steps : List Step) (s : Step) → run_from terms w (steps ++ s ∷ []) ≡ happens terms s (run_from terms w steps)
 run_from-push terms w [] s = refl
 run_from-push terms w (t ∷ steps) s = run_from-push terms (happens terms t w) steps s

@@ -14,9 +14,10 @@ use Rattle.mux_items.proofs.Window.{unread_window}
 use Rattle.mux_run.specs.Run.{Terms}
 use Rattle.mux_run.specs.Between.{ahead, Between}
 use Rattle.mux_run.specs.Safe.{IsPrefixOf, IsApart, IsSafeWay, IsSafe, IsSafeRun}
+use Rattle.mux_run.specs.Spending.{RunStep, IsSafeThrough}
 use Rattle.mux_run.specs.declared.steps.Step.{Step}
 use Rattle.mux_run.proofs.Between.{turned_between}
-use Rattle.mux_run.proofs.Moments.{moments_between}
+use Rattle.mux_run.proofs.Moments.{through_between, moments_between}
 
 -- what x took of a channel is a front of what y emitted
 taken_prefix : (v : Version) (c : ChannelKey) (x y : List Item) → Between v x y → IsPrefixOf (taken v c x) (take (emitted v (other_key c) y) (written (other_key c) y))
@@ -40,6 +41,9 @@ way_safe v c x y b = record {
 
 pub between_safe : (v : Version) (a b : List Item) → Between v a b → IsSafe v a b
 between_safe v a b together = record { to_a = λ c. way_safe v c a b together; to_b = λ c. way_safe v c b a (turned_between v a b together) }
+
+pub through_safe : (terms : Terms) (steps : List RunStep) → IsSafeThrough terms steps
+through_safe terms steps = λ a b moment. between_safe terms.version a b (through_between terms steps a b moment)
 
 pub run_safe : (terms : Terms) (steps : List Step) → IsSafeRun terms steps
 run_safe terms steps = λ a b moment. between_safe terms.version a b (moments_between terms steps a b moment)

@@ -1,5 +1,5 @@
 -- Worked values of runs in version 3.
-use Rattle.std.specs.Prelude.{ℕ, List, [], ◌∷◌, ◌++◌, length, drop, true, false, Some}
+use Rattle.std.specs.Prelude.{ℕ, List, [], ◌∷◌, ◌++◌, length, drop, map, true, false, Some}
 use Rattle.std.proofs.Common.{◌≡◌, refl}
 use Rattle.wire_base.specs.declared.frame.Version.TheVariants as version
 use Rattle.wire_base.specs.declared.refusal.Refusal.TheVariants as refusal
@@ -12,6 +12,7 @@ use Rattle.mux_run.specs.Between.{ahead}
 use Rattle.mux_run.specs.Moments.{IsMoment}
 use Rattle.mux_run.specs.Run.{Terms, out, run}
 use Rattle.mux_run.specs.Answers.{answer}
+use Rattle.mux_run.specs.Spending.{RunStep, Makes, Spends, run_through}
 use Rattle.mux_run.specs.declared.steps.Side.TheVariants.{A, B}
 use Rattle.mux_items.specs.declared.call.Call.TheVariants as call
 use Rattle.mux_run.specs.declared.steps.Step.{Step}
@@ -219,3 +220,17 @@ write_is_refused = refl
 
 read_is_answered : answer terms (step.Call A (call.Read at_a 5)) (run terms ended) ≡ duo.Replied (reply.Bytes []) []
 read_is_answered = refl
+
+-- B is spent with four unread bytes: it answers reads alone and gets nothing more
+
+abbrev spent : List RunStep
+spent = map Makes came ++ Spends B ∷ []
+
+spent_is_refused : answer terms write_back (run_through terms spent) ≡ duo.Replied (reply.Refused (refusal.Ended cause.Spent)) []
+spent_is_refused = refl
+
+spent_is_read : answer terms (step.Call B (call.Read at_b 100)) (run_through terms spent) ≡ duo.Replied (reply.Bytes (104 ∷ 101 ∷ 108 ∷ 108 ∷ [])) []
+spent_is_read = refl
+
+spent_gets_nothing : answer terms (step.Deliver B 1000) (run_through terms (spent ++ Makes (step.Call A (call.Complete at_a)) ∷ [])) ≡ duo.Delivered 0 []
+spent_gets_nothing = refl

@@ -6,3 +6,4 @@ pub mod Cuts
 pub mod Fed
 pub mod Safe
 pub mod Answers
+pub mod Spending

@@ -3,6 +3,7 @@ use Rattle.std.specs.Prelude.{ℕ, ◌+◌, ◌-◌, min, List, [], ◌∷◌, �
 use Rattle.std.specs.Str.{bytes_eq}
 use Rattle.wire_base.specs.declared.frame.Version.{Version}
 use Rattle.wire_base.specs.declared.reason.Reason.TheVariants as reason
+use Rattle.wire_base.specs.declared.state.Cause.{Cause}
 use Rattle.wire_base.specs.declared.state.Cause.TheVariants as cause
 use Rattle.frame_text.specs.Hello.{hello}
 use Rattle.mux_items.specs.Bodies.{ChannelFrame, flip, frame_text, frame_texts}
@@ -11,7 +12,6 @@ use Rattle.mux_items.specs.Parties.{party_by}
 use Rattle.mux_items.specs.Due.{sent, got}
 use Rattle.mux_items.specs.Limits.{most_bytes}
 use Rattle.mux_items.specs.Refusals.{is_ready}
-use Rattle.mux_items.specs.Limits.{most_bytes}
 use Rattle.mux_items.specs.Calls.{called}
 use Rattle.mux_items.specs.Applying.{apply_frame, place_at}
 use Rattle.mux_run.specs.declared.steps.Side.{Side}
@@ -127,8 +127,12 @@ delivered_to w n x y =
     else if is_spent w n x y then record { items = End cause.Spent ∷ x.items; delivered = x.delivered }
     else settled w (x.delivered + added w n x y) x.items y
 
+-- a side whose end ends for this cause, if it runs
+abbrev pub stopped : Cause → RunSide → RunSide
+stopped cause x = if runs x then record { items = End cause ∷ x.items; delivered = x.delivered } else x
+
 abbrev pub ended_side : RunSide → RunSide
-ended_side x = if runs x then record { items = End cause.InputEnded ∷ x.items; delivered = x.delivered } else x
+ended_side x = stopped cause.InputEnded x
 
 -- what a step makes of its side x
 abbrev pub side_after : SideTerms → Step → RunSide → RunSide → RunSide

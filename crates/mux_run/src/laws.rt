@@ -13,17 +13,20 @@ ghost use Rattle.mux_run.specs.Run.{Terms};
 ghost use Rattle.mux_run.specs.Between.{ahead, Between};
 ghost use Rattle.mux_run.specs.Moments.{IsMomentOf};
 ghost use Rattle.mux_run.specs.Safe.{IsSafeRun};
+ghost use Rattle.mux_run.specs.Spending.{RunStep, IsMomentThrough, IsSafeThrough};
 ghost use Rattle.mux_run.specs.declared.steps.Step.{Step};
 
-/// Every run is safe.
+/// Every run is safe, also one in which an end is spent.
 pub fn every_run_is_safe()
-    ensures { (terms : Terms) (steps : List Step) → IsSafeRun terms steps }
+    ensures run { (terms : Terms) (steps : List Step) → IsSafeRun terms steps }
+    ensures through { (terms : Terms) (steps : List RunStep) → IsSafeThrough terms steps }
 {}
 
 /// At every moment of every run each end has applied the first frames that were due at the other. A call, the
 /// handshake, the next frame and the end keep that; the frame is then no longer ahead.
 pub fn moments_are_between()
     ensures moment { (terms : Terms) (steps : List Step) (a b : List Item) → IsMomentOf terms steps a b → Between terms.version a b }
+    ensures through { (terms : Terms) (steps : List RunStep) (a b : List Item) → IsMomentThrough terms steps a b → Between terms.version a b }
     ensures turned { (v : Version) (x y : List Item) → Between v x y → Between v y x }
     ensures call { (v : Version) (c : Call) (x y : List Item) → Between v x y → Between v (called v c x) y }
     ensures handshake { (v : Version) (party : Party) (x y : List Item) → Between v x y → IsGreeting v party x → Between v (Hello party ∷ x) y }
