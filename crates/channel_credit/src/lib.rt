@@ -15,4 +15,5 @@ mod views;
 
 pub use channel::Channel;
 pub use mux_state::Due;
+pub use refusals::is_bad_window;
 pub use take_fault::TakeFault;

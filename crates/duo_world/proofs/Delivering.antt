@@ -23,10 +23,12 @@ use Rattle.mux_run.specs.Answers.{events_since, delivered_count}
 use Rattle.mux_run.specs.Linked.{Joined}
 use Rattle.mux_run.specs.Fed.{LieWithin, IsFed}
 use Rattle.mux_run.proofs.Fed.{lie_more}
-use Rattle.mux_run.proofs.WholeFrames.{frame_texts-append, whole_fits, take_whole}
+use Rattle.mux_items.proofs.Texts.{frame_texts-append}
+use Rattle.mux_run.proofs.WholeFrames.{whole_fits, take_whole}
 use Rattle.mux_run.proofs.Growing.{sent_grows, out-more, side_after_grown}
 use Rattle.mux_end.specs.Stands.{EndValue, MuxStands}
 use Rattle.mux_end.specs.Ends.{with_output}
+use Rattle.mux_end.proofs.Output.{output_taken}
 use Rattle.mux_run.specs.Between.{ahead}
 use Rattle.mux_run.specs.declared.answers.DuoAnswer.TheVariants as duo
 use Rattle.mux_end.specs.Replies.{Adds, KeepsPiece, FeedAnswers}
@@ -97,9 +99,6 @@ peer_stays w s peer x y j h =
     peer_grows (turned w) peer y x (side_after w s x y).items more.0 h more.1 applied j.back.bound
 
 -- bytes of y's output were taken from it
-
-output_taken : (end : EndValue) (bytes : List ℕ) (items : List Item) (at : ℕ) (rest : List ℕ) → MuxStands end items at rest → MuxStands (with_output bytes end) items at rest
-output_taken end bytes items at rest s = record { book = s.book; at_is = s.at_is; rest_is = s.rest_is; state = s.state; allowed = s.allowed }
 
 peer_took : (w : SideTerms) (m : ℕ) (peer peer' : EndValue) (items : List Item) (d : ℕ) (y : RunSide) → StandsForSide (turned w) peer y (side_with items d) → m ≤ length peer.output → peer' ≡ with_output (drop m peer.output) peer
     → StandsForSide (turned w) peer' y (side_with items (d + m))

@@ -4,6 +4,6 @@ pub mod Keeping
 pub mod Places
 pub mod Booking
 pub mod Answering
-pub mod Parity
 pub mod Stepping
 pub mod Applied
+pub mod Output

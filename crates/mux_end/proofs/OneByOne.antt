@@ -3,15 +3,12 @@ use Rattle.std.specs.Prelude.{ℕ, List, [], ◌∷◌, ◌++◌}
 use Rattle.std.proofs.Common.{◌≡◌, refl, sym, ◌∙◌, ap, append_assoc}
 use Rattle.wire_base.specs.declared.frame.Version.{Version}
 use Rattle.mux_items.specs.declared.channel.ChannelKey.{ChannelKey}
-use Rattle.mux_items.specs.Bodies.{ChannelFrame, frame_text, frame_texts}
+use Rattle.mux_items.specs.Bodies.{frame_texts}
+use Rattle.mux_items.proofs.Texts.{frame_texts-append}
 use Rattle.mux_state.specs.State.{ChannelState}
 use Rattle.mux_state.specs.Next.{frames_due}
 use Rattle.mux_state.specs.Emitting.{due_of, sent_frames, sent_state}
 use Rattle.mux_state.proofs.Emits.{sends_one}
-
-frame_texts-append : (v : Version) (a b : List ChannelFrame) → frame_texts v (a ++ b) ≡ frame_texts v a ++ frame_texts v b
-frame_texts-append v [] b = refl
-frame_texts-append v (f ∷ a) b = ap (λ bytes. frame_text v f ++ bytes) (frame_texts-append v a b) ∙ sym (append_assoc (frame_text v f) (frame_texts v a) (frame_texts v b))
 
 -- one more frame was sent
 pub output_goes_on : (v : Version) (c : ChannelKey) (s next : ChannelState) (out after whole : List ℕ) → next ≡ sent_state (due_of s) s → after ≡ out ++ frame_texts v (sent_frames c (due_of s) s)

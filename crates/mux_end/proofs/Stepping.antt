@@ -35,7 +35,7 @@ use Rattle.mux_end.specs.Keeps.{event_by, item_in}
 use Rattle.mux_end.specs.Replies.{Adds, StepAnswers}
 use Rattle.mux_end.specs.Stands.{EndValue, MuxStands, state_by}
 use Rattle.mux_end.proofs.Answering.{adds_item, ends, still_running}
-use Rattle.mux_end.proofs.Parity.{handshake_parity}
+use Rattle.mux_handshake.proofs.Parity.{handshake_parity}
 
 module _ (old : EndValue) (items : List Item) (at : ℕ) (rest : List ℕ) (s : MuxStands old items at rest) (run : old.state ≡ state.Running) where
   -- a frame that no rule refuses, by whether it is rejected

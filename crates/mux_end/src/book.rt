@@ -7,7 +7,7 @@ ghost use Rattle.mux_end.specs.Known.{Leaves, Takes, count_found, frames_after, 
 ghost use Rattle.mux_items.specs.Bodies.{body_of, frame_texts, same_key};
 ghost use Rattle.mux_items.specs.Items.{DidAccept, DidComplete, DidOffer, DidRead, DidTerminate, DidWrite, End, Hello, party_or_neither};
 ghost use Rattle.mux_items.specs.Limits.{greatest_window, longest_name, most_offers};
-ghost use Rattle.mux_items.specs.Refusals.{is_bad_window, unless_ended};
+ghost use Rattle.mux_items.specs.Refusals.{unless_ended};
 ghost use Rattle.mux_state.specs.Book.{drawn_key, due_of_book, empty_book, event_found, found, frame_in, has_offer, is_ready_book, kept_in, known_in, next_book, offer_test, own_count, tally_found, windows_in};
 ghost use Rattle.mux_state.specs.Tests.{accept_test, on_kept, open_test, read_test, view_on, write_test, writing_test};
 ghost use Rattle.std.specs.List.{list_any};
@@ -19,9 +19,9 @@ use crate::channels::Channels;
 use crate::frames::{push_offer, push_terminated};
 use crate::known::KnownChannel;
 use crate::party::{own_id, same_key};
-use channel_credit::{Channel, TakeFault};
+use channel_credit::{Channel, TakeFault, is_bad_window};
 use mux_items::{
-    ABSENT_WINDOW, ChannelKey, ChannelView, GREATEST_WINDOW, LONGEST_NAME, MOST_CHANNELS,
+    ABSENT_WINDOW, ChannelKey, ChannelView, LONGEST_NAME, MOST_CHANNELS,
     MOST_OFFERS, MOST_WINDOWS, MuxEvent, Party, Tally,
 };
 use std::alloc::Global;
@@ -52,13 +52,6 @@ impl Model for ChannelBook {
     ghost view = { λ b. record { version = b.version; party = b.party; cause = b.cause; entries = b.channels; rejected = b.rejected.items } };
 
     ghost invariant = { λ b. All (IsOf b.version) b.channels };
-}
-
-/// Whether a window may not be given.
-fn is_bad_window(window: u32) -> bool
-    ensures { result ≡ is_bad_window window }
-{
-    window < 1 || GREATEST_WINDOW < window
 }
 
 impl ChannelBook {

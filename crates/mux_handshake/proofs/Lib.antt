@@ -4,3 +4,4 @@ pub mod Greater
 pub mod Steady
 pub mod Hellos
 pub mod Refused
+pub mod Parity

@@ -1,5 +1,6 @@
 pub mod Keys
 pub mod Flips
+pub mod Texts
 pub mod Emission
 pub mod Permits
 pub mod Applied

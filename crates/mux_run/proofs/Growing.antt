@@ -27,7 +27,8 @@ use Rattle.mux_items.specs.declared.call.Call.{Call}
 use Rattle.mux_items.specs.declared.call.Call.TheVariants as call
 use Rattle.mux_run.specs.declared.steps.Step.{Step}
 use Rattle.mux_run.specs.declared.steps.Step.TheVariants as step
-use Rattle.mux_run.proofs.WholeFrames.{frame_texts-append, whole_front}
+use Rattle.mux_items.proofs.Texts.{frame_texts-append}
+use Rattle.mux_run.proofs.WholeFrames.{whole_front}
 
 -- newer items came, by which these frames were applied
 pub record Grown (v : Version) (before after : List Item) (frames : List ChannelFrame) : Type 0 where

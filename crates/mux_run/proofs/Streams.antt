@@ -7,7 +7,8 @@ use Rattle.mux_items.specs.Bodies.{ChannelFrame, frame_text, frame_texts}
 use Rattle.mux_items.specs.Due.{sent}
 use Rattle.mux_run.specs.Run.{RunSide, SideTerms, out, greeting_size, whole_frames, next_frames, place_after}
 use Rattle.mux_run.specs.Cuts.{IsCut}
-use Rattle.mux_run.proofs.WholeFrames.{frame_texts-append, take-append-ge, take_whole, cut_after, drop_next, take_next}
+use Rattle.mux_items.proofs.Texts.{frame_texts-append}
+use Rattle.mux_run.proofs.WholeFrames.{take-append-ge, take_whole, cut_after, drop_next, take_next}
 
 -- fewer bytes than the handshake
 pub stream_short : (w : SideTerms) (given : ℕ) (y : RunSide) → given ≤ greeting_size w → take given (out w.version w.peer y.items) ≡ take given (hello w.version w.peer)

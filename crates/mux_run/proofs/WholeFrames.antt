@@ -10,6 +10,7 @@ use Rattle.wire_base.specs.declared.frame.Frame.{Frame}
 use Rattle.wire_base.specs.Shortest.{array_head, unsigned_text}
 use Rattle.frame_text.specs.Frames.{text, packed_text, payload_text, is_empty, code_number, origin_text, payload_element}
 use Rattle.mux_items.specs.Bodies.{ChannelFrame, frame_of, frame_text, frame_texts}
+use Rattle.mux_items.proofs.Texts.{frame_texts-append}
 use Rattle.mux_run.specs.Run.{whole_frames}
 use Rattle.mux_run.specs.Cuts.{IsCut}
 
@@ -43,10 +44,6 @@ text_not_empty version.Three f = packed_not_empty 3 f
 
 pub frame_text_not_empty : (v : Version) (f : ChannelFrame) → 0 < length (frame_text v f)
 frame_text_not_empty v f = text_not_empty v (frame_of v f)
-
-pub frame_texts-append : (v : Version) (fs gs : List ChannelFrame) → frame_texts v (fs ++ gs) ≡ frame_texts v fs ++ frame_texts v gs
-frame_texts-append v [] gs = refl
-frame_texts-append v (f ∷ fs) gs = ap (λ bs. frame_text v f ++ bs) (frame_texts-append v fs gs) ∙ sym (append_assoc (frame_text v f) (frame_texts v fs) (frame_texts v gs))
 
 -- Lists.
 
