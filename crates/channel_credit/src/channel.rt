@@ -1,5 +1,6 @@
 //! A channel, and what of it is due.
 
+ghost use Rattle.wire_base.specs.declared.limits.TheConstants.{COUNT_LIMIT};
 ghost use Rattle.std.specs.Prelude.{◌≡◌, ◌≤◌, ◌<◌, ◌++◌, ℕ, length, not, true, IfOk, OnErr, OnOk};
 ghost use Rattle.mux_items.specs.Bodies.{is_one};
 ghost use Rattle.mux_items.specs.Limits.{greatest_window};
@@ -58,7 +59,7 @@ impl Channel {
 
     /// A channel that the peer offers with a window of so many bytes.
     pub fn heard(alloc: Global, version: Version, peer_window: u64) -> Channel
-        requires { peer_window < 0x8000000000000000 }
+        requires { peer_window < COUNT_LIMIT }
         ensures { result ≡ heard_state version peer_window }
     {
         Channel {

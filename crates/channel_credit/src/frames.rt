@@ -1,5 +1,6 @@
 //! What frames of the peer make of a channel. After the own termination only the peer's is heeded.
 
+ghost use Rattle.wire_base.specs.declared.limits.TheConstants.{COUNT_LIMIT};
 ghost use Rattle.std.specs.Prelude.{◌≡◌, ◌<◌, Some};
 ghost use Rattle.channel_credit.specs.Answers.{FrameLeaves, TakeLeaves};
 ghost use Rattle.mux_items.specs.Bodies.{Content, ContentProcessed, ContentWritingCompleted, OfferAccepted};
@@ -13,7 +14,7 @@ use wire_base::Reason;
 impl Channel {
     /// The peer accepted with a window of so many bytes.
     pub fn on_accepted(&mut self, window: u64) -> Result<(), Reason>
-        requires { window < 0x8000000000000000 }
+        requires { window < COUNT_LIMIT }
         ensures { FrameLeaves (frame_test (OfferAccepted (Some window)) self.old) self.old (framed_state (OfferAccepted (Some window)) self.old) self.new result }
     {
         if self.termination_sent {

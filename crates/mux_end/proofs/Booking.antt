@@ -1,5 +1,5 @@
 -- What a call or a frame makes of an end's book.
-use Rattle.std.specs.Prelude.{ℕ, List, Bool, true, false, not, if◌then◌else◌, Option, Some, None, Result, Ok, Err, is_none}
+use Rattle.std.specs.Prelude.{ℕ, List, Bool, true, false, not, if◌then◌else◌, Option, Some, None, Result, Ok, Err, OnOk, ◌++◌, is_none}
 use Rattle.std.proofs.Common.{◌≡◌, refl, sym, ◌∙◌, ap, subst}
 use Rattle.frame_text.specs.Frames.{fits_id}
 use Rattle.wire_base.specs.declared.fault.CallFault.{CallFault}
@@ -15,13 +15,16 @@ use Rattle.wire_base.specs.declared.refusal.Refusal.{Refusal}
 use Rattle.channel_credit.specs.declared.take_fault.TakeFault.{TakeFault}
 use Rattle.channel_credit.specs.declared.take_fault.TakeFault.TheVariants as take_fault
 use Rattle.mux_items.specs.declared.channel.ChannelKey.{ChannelKey}
-use Rattle.mux_items.specs.Bodies.{FrameBody, Offer, OfferAccepted, Content, ContentWritingCompleted, ChannelTerminated, ContentProcessed, body_of}
+use Rattle.mux_items.specs.Bodies.{FrameBody, Offer, OfferAccepted, Content, ContentWritingCompleted, ChannelTerminated, ContentProcessed, ChannelFrame, body_of, frame_texts}
 use Rattle.mux_items.specs.Items.{Got}
 use Rattle.mux_items.specs.Applying.{is_offer}
 use Rattle.mux_items.specs.Refusals.{unless_ended}
 use Rattle.mux_state.specs.State.{ChannelState}
 use Rattle.mux_state.specs.Tests.{on_kept}
 use Rattle.mux_state.specs.Book.{Book, Entry, Standing, Kept, Gone, change_at, due_found, due_of_book, entry_at, event_found, found, frame_in, frame_on_found, has_offer, kept_in, next_book}
+use Rattle.mux_end.specs.declared.channel_call.ChannelCall.{ChannelCall}
+use Rattle.mux_end.specs.declared.channel_call.ChannelCall.TheVariants.{Write, Complete, Terminate}
+use Rattle.mux_end.specs.ChannelCalls.{called_frames, called_state, item_of, test_of}
 use Rattle.mux_end.specs.Known.{IsOf, Leaves, Takes, frames_after, heeds}
 use Rattle.mux_end.specs.Keeps.{event_by, item_in, later_book, later_in}
 
@@ -41,12 +44,47 @@ read_leaves b old c n test change result is h =
     subst (λ (o : Book). Leaves (on_kept (kept_in (found c o)) test) o (record o { entries = change_at c change o.entries }) (record b { entries = n }) result) is
     (book_leaves b (change_at c change b.entries) n (on_kept (kept_in (found c b)) test) result h)
 
-pub call_leaves : {A : Type 0} (b old : Book) (c : ChannelKey) (n : List Entry) (test : ChannelState → Option Refusal) (change : ChannelState → ChannelState) (result : Result A CallFault) → b ≡ old → b.cause ≡ None
+call_leaves : {A : Type 0} (b old : Book) (c : ChannelKey) (n : List Entry) (test : ChannelState → Option Refusal) (change : ChannelState → ChannelState) (result : Result A CallFault) → b ≡ old → b.cause ≡ None
     → Leaves (on_kept (kept_in (found c b)) test) b.entries (change_at c change b.entries) n result
     → Leaves (unless_ended old.cause (on_kept (kept_in (found c old)) test)) old (record old { entries = change_at c change old.entries }) (record b { entries = n }) result
 call_leaves b old c n test change result is runs h =
     subst (λ cause. Leaves (unless_ended cause (on_kept (kept_in (found c old)) test)) old (record old { entries = change_at c change old.entries }) (record b { entries = n }) result)
     (sym runs ∙ ap (λ (o : Book). o.cause) is) (read_leaves b old c n test change result is h)
+
+-- the item of a call on a channel, by the book
+next_called : (c : ChannelKey) (call : ChannelCall) (b : Book) → next_book (item_of c call) b ≡ record b { entries = change_at c (called_state call) b.entries }
+next_called c (Write bytes) b = refl
+next_called c Complete b = refl
+next_called c Terminate b = refl
+
+due_standing : (c : ChannelKey) (call : ChannelCall) (running : Bool) (standing : Option Standing) → due_found c running (item_of c call) standing ≡ called_frames c call standing
+due_standing c (Write bytes) running None = refl
+due_standing c (Write bytes) running (Some (Kept now)) = refl
+due_standing c (Write bytes) running (Some (Gone tally)) = refl
+due_standing c Complete running None = refl
+due_standing c Complete running (Some (Kept now)) = refl
+due_standing c Complete running (Some (Gone tally)) = refl
+due_standing c Terminate running None = refl
+due_standing c Terminate running (Some (Kept now)) = refl
+due_standing c Terminate running (Some (Gone tally)) = refl
+
+due_of_call : (c : ChannelKey) (call : ChannelCall) (b : Book) → due_of_book (item_of c call) b ≡ due_found c (is_none b.cause) (item_of c call) (found c b)
+due_of_call c (Write bytes) b = refl
+due_of_call c Complete b = refl
+due_of_call c Terminate b = refl
+
+pub called_leaves : {A : Type 0} (b old : Book) (c : ChannelKey) (call : ChannelCall) (n : List Entry) (result : Result A CallFault) → b ≡ old → b.cause ≡ None
+    → Leaves (on_kept (kept_in (found c b)) (test_of call)) b.entries (change_at c (called_state call) b.entries) n result
+    → Leaves (unless_ended old.cause (on_kept (kept_in (found c old)) (test_of call))) old (next_book (item_of c call) old) (record b { entries = n }) result
+called_leaves b old c call n result is runs h =
+    subst (λ (next : Book). Leaves (unless_ended old.cause (on_kept (kept_in (found c old)) (test_of call))) old next (record b { entries = n }) result) (sym (next_called c call old))
+    (call_leaves b old c n (test_of call) (called_state call) result is runs h)
+
+pub call_output_by : {A : Type 0} (b old : Book) (c : ChannelKey) (call : ChannelCall) (out written : List ℕ) (result : Result A CallFault) → b ≡ old
+    → OnOk result (written ≡ out ++ frame_texts b.version (called_frames c call (found c b))) → OnOk result (written ≡ out ++ frame_texts old.version (due_of_book (item_of c call) old))
+call_output_by b old c call out written result is h =
+    subst (λ (frames : List ChannelFrame). OnOk result (written ≡ out ++ frame_texts old.version frames)) (sym (due_of_call c call old ∙ due_standing c call (is_none old.cause) (found c old)))
+    (subst (λ (o : Book). OnOk result (written ≡ out ++ frame_texts o.version (called_frames c call (found c o)))) is h)
 
 book_takes : {A : Type 0} (b : Book) (after new : List Entry) (refused : Option Reason) (result : Result A TakeFault) → Takes refused b.entries after new result → Takes refused b (record b { entries = after }) (record b { entries = new }) result
 book_takes b after new None (Ok x) h = ap (λ es. record b { entries = es }) h

@@ -6,6 +6,7 @@ use Rattle.std.proofs.lemmas.Bool.{lt-ltb, le-leb}
 use Rattle.std.proofs.lemmas.Str.{is_utf8-from_IsUtf8}
 use Rattle.wire_base.specs.declared.frame.Version.{Version}
 use Rattle.wire_base.specs.declared.frame.Version.TheVariants as version
+use Rattle.wire_base.specs.declared.limits.TheConstants.{COUNT_LIMIT, MAX_PAYLOAD}
 use Rattle.wire_base.specs.Shortest.{unsigned_text, str_head}
 use Rattle.frame_text.specs.Frames.{fits, fits_code, fits_id, fits_origin, fits_length, payload_text}
 use Rattle.wire_base.specs.declared.frame.Code.TheVariants as code
@@ -14,6 +15,7 @@ use Rattle.wire_base.specs.declared.frame.Payload.TheVariants as payload
 use Rattle.mux_items.specs.declared.channel.ChannelKey.{ChannelKey}
 use Rattle.mux_items.specs.Bodies.{FrameBody, Offer, OfferAccepted, Content, ContentWritingCompleted, ChannelTerminated, ContentProcessed, frame_on, frame_of, is_one, origin_of, code_of, payload_of}
 use Rattle.mux_items.specs.Due.{written_window}
+use Rattle.mux_items.specs.Limits.{longest_name, piece_size}
 
 -- a choice of two short lists is short
 short_choice : (b : Bool) (xs ys : List ℕ) (most : ℕ) → length xs ≤ most → length ys ≤ most → length (if b then xs else ys) ≤ most
@@ -50,31 +52,31 @@ body_fits : (v : Version) (key : ChannelKey) (body : FrameBody) → fits_id v ke
     → fits_code v (code_of body) (payload_of body) ≡ true → fits_length v (payload_of body) ≡ true → fits v (frame_of v (frame_on key body)) ≡ true
 body_fits v key body id code long = all_four _ _ _ _ code id (origin_fits v key) long
 
-code_fits_offer : (v : Version) (name : List ℕ) (window : ℕ) → is_utf8 name ≡ true → window < 0x8000000000000000
+code_fits_offer : (v : Version) (name : List ℕ) (window : ℕ) → is_utf8 name ≡ true → window < COUNT_LIMIT
     → fits_code v code.Offer (payload.Offer name (written_window v window)) ≡ true
 code_fits_offer version.One name window u w = rw u refl
-code_fits_offer version.Two name window u w = rw (u, lt-ltb window 0x8000000000000000 w) refl
-code_fits_offer version.Three name window u w = rw (u, lt-ltb window 0x8000000000000000 w) refl
+code_fits_offer version.Two name window u w = rw (u, lt-ltb window COUNT_LIMIT w) refl
+code_fits_offer version.Three name window u w = rw (u, lt-ltb window COUNT_LIMIT w) refl
 
-code_fits_accepted : (v : Version) (window : ℕ) → window < 0x8000000000000000 → fits_code v code.OfferAccepted (payload.Accepted (written_window v window)) ≡ true
+code_fits_accepted : (v : Version) (window : ℕ) → window < COUNT_LIMIT → fits_code v code.OfferAccepted (payload.Accepted (written_window v window)) ≡ true
 code_fits_accepted version.One window w = refl
-code_fits_accepted version.Two window w = lt-ltb window 0x8000000000000000 w
-code_fits_accepted version.Three window w = lt-ltb window 0x8000000000000000 w
+code_fits_accepted version.Two window w = lt-ltb window COUNT_LIMIT w
+code_fits_accepted version.Three window w = lt-ltb window COUNT_LIMIT w
 
 code_fits_content : (v : Version) (bytes : List ℕ) → fits_code v code.Content (payload.Content bytes) ≡ true
 code_fits_content version.One bytes = refl
 code_fits_content version.Two bytes = refl
 code_fits_content version.Three bytes = refl
 
-code_fits_processed : (v : Version) (count : ℕ) → is_one v ≡ false → count < 0x8000000000000000 → fits_code v code.ContentProcessed (payload.Processed count) ≡ true
+code_fits_processed : (v : Version) (count : ℕ) → is_one v ≡ false → count < COUNT_LIMIT → fits_code v code.ContentProcessed (payload.Processed count) ≡ true
 code_fits_processed version.One count p w = absurd cc
-code_fits_processed version.Two count p w = lt-ltb count 0x8000000000000000 w
-code_fits_processed version.Three count p w = lt-ltb count 0x8000000000000000 w
+code_fits_processed version.Two count p w = lt-ltb count COUNT_LIMIT w
+code_fits_processed version.Three count p w = lt-ltb count COUNT_LIMIT w
 
-name_short : (name : List ℕ) (window : ℕ) → length name ≤ 1024 → length (payload_text (payload.Offer name (Some window))) ≤ 0x100000
+name_short : (name : List ℕ) (window : ℕ) → length name ≤ longest_name → length (payload_text (payload.Offer name (Some window))) ≤ MAX_PAYLOAD
 name_short name window short = simp length-append (omega (arith, unsigned_short window, str_head_short (length name)))
 
-length_fits_offer : (v : Version) (name : List ℕ) (window : ℕ) → length name ≤ 1024 → fits_length v (payload.Offer name (written_window v window)) ≡ true
+length_fits_offer : (v : Version) (name : List ℕ) (window : ℕ) → length name ≤ longest_name → fits_length v (payload.Offer name (written_window v window)) ≡ true
 length_fits_offer version.One name window short = le-leb _ _ (omega arith)
 length_fits_offer version.Two name window short = le-leb _ _ (name_short name window short)
 length_fits_offer version.Three name window short = le-leb _ _ (name_short name window short)
@@ -84,7 +86,7 @@ length_fits_accepted version.One window = refl
 length_fits_accepted version.Two window = le-leb _ _ (omega (arith, unsigned_short window))
 length_fits_accepted version.Three window = le-leb _ _ (omega (arith, unsigned_short window))
 
-length_fits_content : (v : Version) (bytes : List ℕ) → length bytes ≤ 20480 → fits_length v (payload.Content bytes) ≡ true
+length_fits_content : (v : Version) (bytes : List ℕ) → length bytes ≤ piece_size → fits_length v (payload.Content bytes) ≡ true
 length_fits_content version.One bytes short = le-leb _ _ (omega arith)
 length_fits_content version.Two bytes short = le-leb _ _ (omega arith)
 length_fits_content version.Three bytes short = le-leb _ _ (omega arith)
@@ -109,20 +111,20 @@ length_fits_nothing version.One = refl
 length_fits_nothing version.Two = refl
 length_fits_nothing version.Three = refl
 
-pub fits_offer : (v : Version) (key : ChannelKey) (name : List ℕ) (window : ℕ) → fits_id v key.id ≡ true → is_utf8 name ≡ true → length name ≤ 1024 → window < 0x8000000000000000
+pub fits_offer : (v : Version) (key : ChannelKey) (name : List ℕ) (window : ℕ) → fits_id v key.id ≡ true → is_utf8 name ≡ true → length name ≤ longest_name → window < COUNT_LIMIT
     → fits v (frame_of v (frame_on key (Offer name (written_window v window)))) ≡ true
 fits_offer v key name window id u short w =
     body_fits v key (Offer name (written_window v window)) id (code_fits_offer v name window u w) (length_fits_offer v name window short)
 
-pub fits_accepted : (v : Version) (key : ChannelKey) (window : ℕ) → fits_id v key.id ≡ true → window < 0x8000000000000000
+pub fits_accepted : (v : Version) (key : ChannelKey) (window : ℕ) → fits_id v key.id ≡ true → window < COUNT_LIMIT
     → fits v (frame_of v (frame_on key (OfferAccepted (written_window v window)))) ≡ true
 fits_accepted v key window id w = body_fits v key (OfferAccepted (written_window v window)) id (code_fits_accepted v window w) (length_fits_accepted v window)
 
-pub fits_content : (v : Version) (key : ChannelKey) (bytes : List ℕ) → fits_id v key.id ≡ true → length bytes ≤ 20480
+pub fits_content : (v : Version) (key : ChannelKey) (bytes : List ℕ) → fits_id v key.id ≡ true → length bytes ≤ piece_size
     → fits v (frame_of v (frame_on key (Content bytes))) ≡ true
 fits_content v key bytes id short = body_fits v key (Content bytes) id (code_fits_content v bytes) (length_fits_content v bytes short)
 
-pub fits_processed : (v : Version) (key : ChannelKey) (count : ℕ) → fits_id v key.id ≡ true → is_one v ≡ false → count < 0x8000000000000000
+pub fits_processed : (v : Version) (key : ChannelKey) (count : ℕ) → fits_id v key.id ≡ true → is_one v ≡ false → count < COUNT_LIMIT
     → fits v (frame_of v (frame_on key (ContentProcessed count))) ≡ true
 fits_processed v key count id two w = body_fits v key (ContentProcessed count) id (code_fits_processed v count two w) (length_fits_processed v count)
 

@@ -1,6 +1,6 @@
 -- What a call or a frame makes of a kept channel's entry.
 use Rattle.std.specs.Prelude.{◌++◌, List, ℕ, Bool, true, false, if◌then◌else◌, Option, Some, None, Result, Ok, Err, OnOk}
-use Rattle.std.proofs.Common.{◌≡◌, refl, sym, ◌∙◌, ap, subst}
+use Rattle.std.proofs.Common.{◌≡◌, refl, sym, ◌∙◌, ap, subst, append_assoc}
 use Rattle.wire_base.specs.declared.fault.CallFault.{CallFault}
 use Rattle.wire_base.specs.declared.fault.CallFault.TheVariants as fault
 use Rattle.wire_base.specs.declared.frame.Version.{Version}
@@ -11,29 +11,30 @@ use Rattle.channel_credit.specs.declared.take_fault.TakeFault.{TakeFault}
 use Rattle.channel_credit.specs.declared.take_fault.TakeFault.TheVariants as take_fault
 use Rattle.mux_items.specs.declared.channel.ChannelKey.{ChannelKey}
 use Rattle.mux_items.specs.Bodies.{FrameBody, Offer, OfferAccepted, Content, ContentWritingCompleted, ChannelTerminated, ContentProcessed, ChannelFrame, frame_texts}
+use Rattle.mux_items.proofs.Texts.{frame_texts-append}
 use Rattle.mux_state.specs.State.{ChannelState}
-use Rattle.mux_state.specs.Next.{settled, framed_state}
+use Rattle.mux_state.specs.Next.{settled, framed_state, frames_due}
 use Rattle.mux_state.specs.Tests.{on_kept, frame_test}
-use Rattle.mux_state.specs.Book.{Entry, Standing, changed_entry, entry_at, frame_on_found, kept_in}
+use Rattle.mux_state.specs.Book.{Entry, changed_entry, entry_at, frame_on_found, kept_in}
+use Rattle.mux_end.specs.declared.channel_call.ChannelCall.{ChannelCall}
+use Rattle.mux_end.specs.ChannelCalls.{called_frames, made_state, own_frame}
 use Rattle.mux_end.specs.Known.{Leaves, Takes, IsOf, frames_in, frames_after, heeds}
 
 -- a call that fails
-failed_at : {A : Type 0} (k : ChannelKey) (s after n : ChannelState) (final : Entry) (refused : Option Refusal) (why : CallFault) (result : Result A CallFault) → result ≡ Err why → CallLeaves refused s after n result → Leaves refused (entry_at k s) final (entry_at k n) result
-failed_at k s after n final None why (Err fault.OutOfMemory) fails h = tt
-failed_at k s after n final None why (Err (fault.Refused r)) fails h = absurd h
-failed_at k s after n final None why (Ok x) fails h = absurd cc
-failed_at k s after n final (Some r) why (Err (fault.Refused t)) fails h = (h.0, ap (entry_at k) h.1)
-failed_at k s after n final (Some r) why (Err fault.OutOfMemory) fails h = absurd h
-failed_at k s after n final (Some r) why (Ok x) fails h = absurd cc
+failed_at : (A B : Type 0) (k : ChannelKey) (s after n : ChannelState) (final : Entry) (refused : Option Refusal) (why : CallFault) → Leaves {A = A} refused s after n (Err why) → Leaves {A = B} refused (entry_at k s) final (entry_at k n) (Err why)
+failed_at A B k s after n final None fault.OutOfMemory h = tt
+failed_at A B k s after n final None (fault.Refused r) h = absurd h
+failed_at A B k s after n final (Some r) (fault.Refused t) h = (h.0, ap (entry_at k) h.1)
+failed_at A B k s after n final (Some r) fault.OutOfMemory h = absurd h
 
-pub call_failed : {A : Type 0} (old : Entry) (k : ChannelKey) (s after n : ChannelState) (test : ChannelState → Option Refusal) (change : ChannelState → ChannelState) (why : CallFault) (result : Result A CallFault) → entry_at k s ≡ old → result ≡ Err why
-    → CallLeaves (test s) s after n result → Leaves (on_kept (kept_in (Some old.standing)) test) old (changed_entry change old) (entry_at k n) result
-call_failed old k s after n test change why result is fails h =
-    subst (λ (o : Entry). Leaves (on_kept (kept_in (Some o.standing)) test) o (changed_entry change o) (entry_at k n) result) is
-    (failed_at k s after n (changed_entry change (entry_at k s)) (test s) why result fails h)
+pub call_failed : (A B : Type 0) (old : Entry) (k : ChannelKey) (s n : ChannelState) (test : ChannelState → Option Refusal) (alter change : ChannelState → ChannelState) (why : CallFault) → entry_at k s ≡ old
+    → Leaves {A = A} (test s) s (alter s) n (Err why) → Leaves {A = B} (on_kept (kept_in (Some old.standing)) test) old (changed_entry change old) (entry_at k n) (Err why)
+call_failed A B old k s n test alter change why is h =
+    subst (λ (o : Entry). Leaves {A = B} (on_kept (kept_in (Some o.standing)) test) o (changed_entry change o) (entry_at k n) (Err why)) is
+    (failed_at A B k s (alter s) n (changed_entry change (entry_at k s)) (test s) why h)
 
 -- a call that is done, and then what is due
-done_at : {A B : Type 0} (k : ChannelKey) (s after n : ChannelState) (new : Entry) (refused : Option Refusal) (x : A) (result : Result B CallFault) → CallLeaves refused s after n (Ok x) → Leaves None (entry_at k n) (changed_entry settled (entry_at k n)) new result
+done_at : {A B : Type 0} (k : ChannelKey) (s after n : ChannelState) (new : Entry) (refused : Option Refusal) (x : A) (result : Result B CallFault) → Leaves refused s after n (Ok x) → Leaves None (entry_at k n) (changed_entry settled (entry_at k n)) new result
     → Leaves refused (entry_at k s) (changed_entry settled (entry_at k after)) new result
 done_at k s after n new None x (Ok y) h g = g ∙ ap (λ t. changed_entry settled (entry_at k t)) h
 done_at k s after n new None x (Err fault.OutOfMemory) h g = tt
@@ -41,27 +42,29 @@ done_at k s after n new None x (Err (fault.Refused r)) h g = absurd g
 done_at k s after n new (Some r) x result h g = absurd h
 
 pub call_done : {A B : Type 0} (old : Entry) (k : ChannelKey) (s n : ChannelState) (new : Entry) (test : ChannelState → Option Refusal) (alter : ChannelState → ChannelState) (x : A) (result : Result B CallFault) → entry_at k s ≡ old
-    → CallLeaves (test s) s (alter s) n (Ok x) → Leaves None (entry_at k n) (changed_entry settled (entry_at k n)) new result → Leaves (on_kept (kept_in (Some old.standing)) test) old (changed_entry (λ t. settled (alter t)) old) new result
+    → Leaves (test s) s (alter s) n (Ok x) → Leaves None (entry_at k n) (changed_entry settled (entry_at k n)) new result → Leaves (on_kept (kept_in (Some old.standing)) test) old (changed_entry (λ t. settled (alter t)) old) new result
 call_done old k s n new test alter x result is h g =
     subst (λ (o : Entry). Leaves (on_kept (kept_in (Some o.standing)) test) o (changed_entry (λ t. settled (alter t)) o) new result) is (done_at k s (alter s) n new (test s) x result h g)
 
-done_state : {A : Type 0} (s after n : ChannelState) (refused : Option Refusal) (x : A) → CallLeaves refused s after n (Ok x) → n ≡ after
+done_state : {A : Type 0} (s after n : ChannelState) (refused : Option Refusal) (x : A) → Leaves refused s after n (Ok x) → n ≡ after
 done_state s after n None x h = h
 done_state s after n (Some r) x h = absurd h
 
-output_at : {B : Type 0} (v : Version) (frames others : List ChannelFrame) (out written : List ℕ) (result : Result B CallFault) → frames ≡ others → OnOk result (written ≡ out ++ frame_texts v frames) → OnOk result (written ≡ out ++ frame_texts v others)
-output_at v frames others out written (Ok x) is h = h ∙ ap (λ fs. out ++ frame_texts v fs) is
-output_at v frames others out written (Err e) is h = tt
+-- the frame of the call itself goes before what is due
+output_at : {B : Type 0} (v : Version) (own due : List ChannelFrame) (out mid written : List ℕ) (result : Result B CallFault) → mid ≡ out ++ frame_texts v own → OnOk result (written ≡ mid ++ frame_texts v due) → OnOk result (written ≡ out ++ frame_texts v (own ++ due))
+output_at v own due out mid written (Ok x) first h = h ∙ (ap (λ bs. bs ++ frame_texts v due) first ∙ (append_assoc out (frame_texts v own) (frame_texts v due) ∙ ap (λ bs. out ++ bs) (sym (frame_texts-append v own due))))
+output_at v own due out mid written (Err e) first h = tt
 
-pub call_output : {A B : Type 0} (v : Version) (old : Entry) (k : ChannelKey) (s n : ChannelState) (refused : Option Refusal) (alter : ChannelState → ChannelState) (due : ChannelKey → Option Standing → List ChannelFrame) (x : A) (out written : List ℕ) (result : Result B CallFault) → entry_at k s ≡ old
-    → CallLeaves refused s (alter s) n (Ok x) → frames_in k (entry_at k (alter s)).standing ≡ due k (Some (entry_at k s).standing)
-    → OnOk result (written ≡ out ++ frame_texts v (frames_in k (entry_at k n).standing)) → OnOk result (written ≡ out ++ frame_texts v (due old.key (Some old.standing)))
-call_output v old k s n refused alter due x out written result is h same g =
-    subst (λ (o : Entry). OnOk result (written ≡ out ++ frame_texts v (due o.key (Some o.standing)))) is
-    (output_at v (frames_in k (entry_at k n).standing) (due k (Some (entry_at k s).standing)) out written result (ap (λ t. frames_in k (entry_at k t).standing) (done_state s (alter s) n refused x h) ∙ same) g)
+pub call_output : {A B : Type 0} (v : Version) (old : Entry) (k : ChannelKey) (s n : ChannelState) (call : ChannelCall) (refused : Option Refusal) (x : A) (out mid written : List ℕ) (result : Result B CallFault) → entry_at k s ≡ old
+    → Leaves refused s (made_state call s) n (Ok x) → mid ≡ out ++ frame_texts v (own_frame k call)
+    → OnOk result (written ≡ mid ++ frame_texts v (frames_in k (entry_at k n).standing)) → OnOk result (written ≡ out ++ frame_texts v (called_frames old.key call (Some old.standing)))
+call_output v old k s n call refused x out mid written result is h first g =
+    subst (λ (o : Entry). OnOk result (written ≡ out ++ frame_texts v (called_frames o.key call (Some o.standing)))) is
+    (output_at v (own_frame k call) (frames_due k (made_state call s)) out mid written result first
+    (subst (λ t. OnOk result (written ≡ mid ++ frame_texts v (frames_due k t))) (done_state s (made_state call s) n refused x h) g))
 
 -- no call changes a channel's version
-version_kept : {A : Type 0} (s after n : ChannelState) (refused : Option Refusal) (result : Result A CallFault) → after.version ≡ s.version → CallLeaves refused s after n result → n.version ≡ s.version
+pub version_kept : {A : Type 0} (s after n : ChannelState) (refused : Option Refusal) (result : Result A CallFault) → after.version ≡ s.version → CallLeaves refused s after n result → n.version ≡ s.version
 version_kept s after n None (Ok x) same h = ap (λ (t : ChannelState). t.version) h ∙ same
 version_kept s after n None (Err fault.OutOfMemory) same h = ap (λ (t : ChannelState). t.version) h
 version_kept s after n None (Err (fault.Refused r)) same h = absurd h
@@ -69,11 +72,10 @@ version_kept s after n (Some r) (Err (fault.Refused t)) same h = ap (λ (t : Cha
 version_kept s after n (Some r) (Err fault.OutOfMemory) same h = absurd h
 version_kept s after n (Some r) (Ok x) same h = absurd h
 
-pub call_stays : {A : Type 0} (v : Version) (old : Entry) (k : ChannelKey) (s after n : ChannelState) (refused : Option Refusal) (result : Result A CallFault) → entry_at k s ≡ old → after.version ≡ s.version
-    → CallLeaves refused s after n result → IsOf v old → IsOf v (entry_at k n)
-call_stays v old k s after n refused result is same h of =
+pub call_stays : (v : Version) (old : Entry) (k : ChannelKey) (s n : ChannelState) → entry_at k s ≡ old → n.version ≡ s.version → IsOf v old → IsOf v (entry_at k n)
+call_stays v old k s n is same of =
     let here : IsOf v (entry_at k s) = subst (IsOf v) (sym is) of in
-    record { fits = here.fits; one_version = version_kept s after n refused result same h ∙ here.one_version }
+    record { fits = here.fits; one_version = same ∙ here.one_version }
 
 -- a frame that isn't taken
 untaken_at : (B : Type 0) (k : ChannelKey) (s after n : ChannelState) (final : Entry) (refused : Option Reason) (why : TakeFault) → TakeLeaves {A = Unit {0}} refused s after n (Err why) → Takes {A = B} refused (entry_at k s) final (entry_at k n) (Err why)

@@ -2,6 +2,7 @@ pub mod Stands
 pub mod Arrivals
 pub mod Replies
 pub mod Known
+pub mod ChannelCalls
 pub mod Heeded
 pub mod Keeps
 pub mod Reader

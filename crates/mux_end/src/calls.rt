@@ -9,6 +9,7 @@ ghost use Rattle.mux_items.specs.Refusals.{accept_refusal, complete_refusal, off
 ghost use Rattle.std.specs.Prelude.{◌≡◌, ◌++◌, Err, List, OnOk, length, min, take, ℕ};
 ghost use Rattle.wire_base.specs.declared.refusal.Refusal.{Refusal};
 
+use crate::channel_call::ChannelCall;
 use crate::end::MuxEnd;
 use mux_items::ChannelKey;
 use wire_base::{CallFault, Refusal, Text};
@@ -55,7 +56,9 @@ impl MuxEnd {
         if self.stopped {
             return Err(CallFault::Refused(Refusal::Stopped));
         }
-        let written = self.book.write(key, bytes, &mut self.output);
+        let written = self
+            .book
+            .call(key, ChannelCall::Write(bytes), &mut self.output);
         self.finish(written)
     }
 
@@ -93,7 +96,7 @@ impl MuxEnd {
         if self.stopped {
             return Err(CallFault::Refused(Refusal::Stopped));
         }
-        let completed = self.book.complete(key, &mut self.output);
+        let completed = self.book.call(key, ChannelCall::Complete, &mut self.output);
         self.finish(completed)
     }
 
@@ -108,7 +111,9 @@ impl MuxEnd {
         if self.stopped {
             return Err(CallFault::Refused(Refusal::Stopped));
         }
-        let terminated = self.book.terminate(key, &mut self.output);
+        let terminated = self
+            .book
+            .call(key, ChannelCall::Terminate, &mut self.output);
         self.finish(terminated)
     }
 }

@@ -1,19 +1,21 @@
 //! The channels of an end, in their order.
 
+ghost use Rattle.mux_end.specs.ChannelCalls.{called_frames, called_state, test_of};
 ghost use Rattle.mux_end.specs.Heeded.{IsInRange};
 ghost use Rattle.mux_end.specs.Known.{IsOf, Leaves, Takes, count_found, frames_after, heeds, unread_found};
 ghost use Rattle.mux_items.specs.Bodies.{body_of, frame_texts, same_key};
-ghost use Rattle.mux_items.specs.Items.{DidAccept, DidComplete, DidRead, DidTerminate, DidWrite};
+ghost use Rattle.mux_items.specs.Items.{DidAccept, DidRead};
 ghost use Rattle.mux_items.specs.Limits.{most_windows};
 ghost use Rattle.mux_state.specs.Book.{change_at, changed_entry, due_found, event_found, find, frame_on_found, insert_entry, is_found, is_kept_standing, kept_in, kept_window, tally_found};
 ghost use Rattle.mux_state.specs.Next.{ended_state, next_state};
-ghost use Rattle.mux_state.specs.Tests.{accept_test, on_kept, open_test, read_test, view_on, write_test, writing_test};
+ghost use Rattle.mux_state.specs.Tests.{accept_test, on_kept, read_test, view_on};
 ghost use Rattle.std.specs.List.{position};
 ghost use Rattle.std.specs.Prelude.{◌≡◌, ◌≤◌, ◌+◌, ◌++◌, [], All, Bool, Some, None, Err, MatchOption, OnOk, OnErr, IfOk, filter, length, map, min, slice_get, sum_by, take, true};
 ghost use Rattle.wire_base.specs.declared.frame.Version.{Version};
 ghost use Rattle.wire_base.specs.declared.reason.Reason.{Reason};
 ghost use Rattle.wire_base.specs.declared.refusal.Refusal.{Refusal};
 
+use crate::channel_call::ChannelCall;
 use crate::known::KnownChannel;
 use crate::party::precedes;
 use channel_credit::TakeFault;
@@ -157,60 +159,22 @@ impl Channels {
         }
     }
 
-    pub fn write(
+    pub fn call(
         &mut self,
         alloc: Global,
         version: Version,
         key: ChannelKey,
-        bytes: &[u8],
+        call: ChannelCall<'_>,
         out: &mut Vec<u8>,
     ) -> Result<(), CallFault>
         requires { All (IsOf version) self.old }
-        ensures leaves { Leaves (on_kept (kept_in (find key self.old)) (write_test bytes.now)) self.old (change_at key (next_state (DidWrite key bytes.now)) self.old) self.new result }
-        ensures output { (running : Bool) → OnOk result (out.new.items ≡ out.old.items ++ frame_texts version (due_found key running (DidWrite key bytes.now) (find key self.old))) }
+        ensures leaves { Leaves (on_kept (kept_in (find key self.old)) (test_of call.entry)) self.old (change_at key (called_state call.entry) self.old) self.new result }
+        ensures output { OnOk result (out.new.items ≡ out.old.items ++ frame_texts version (called_frames key call.entry (find key self.old))) }
         ensures unwritten { (refusal : Refusal) → result ≡ Err (CallFault.Refused refusal) → out.new.items ≡ out.old.items }
         ensures stays { All (IsOf version) self.new }
     {
         match self.place_of(key) {
-            Some(place) => self.list[place].write(alloc, version, bytes, out),
-            None => Err(CallFault::Refused(Refusal::NoChannel)),
-        }
-    }
-
-    pub fn complete(
-        &mut self,
-        alloc: Global,
-        version: Version,
-        key: ChannelKey,
-        out: &mut Vec<u8>,
-    ) -> Result<(), CallFault>
-        requires { All (IsOf version) self.old }
-        ensures leaves { Leaves (on_kept (kept_in (find key self.old)) writing_test) self.old (change_at key (next_state (DidComplete key)) self.old) self.new result }
-        ensures output { (running : Bool) → OnOk result (out.new.items ≡ out.old.items ++ frame_texts version (due_found key running (DidComplete key) (find key self.old))) }
-        ensures unwritten { (refusal : Refusal) → result ≡ Err (CallFault.Refused refusal) → out.new.items ≡ out.old.items }
-        ensures stays { All (IsOf version) self.new }
-    {
-        match self.place_of(key) {
-            Some(place) => self.list[place].complete(alloc, version, out),
-            None => Err(CallFault::Refused(Refusal::NoChannel)),
-        }
-    }
-
-    pub fn terminate(
-        &mut self,
-        alloc: Global,
-        version: Version,
-        key: ChannelKey,
-        out: &mut Vec<u8>,
-    ) -> Result<(), CallFault>
-        requires { All (IsOf version) self.old }
-        ensures leaves { Leaves (on_kept (kept_in (find key self.old)) open_test) self.old (change_at key (next_state (DidTerminate key)) self.old) self.new result }
-        ensures output { (running : Bool) → OnOk result (out.new.items ≡ out.old.items ++ frame_texts version (due_found key running (DidTerminate key) (find key self.old))) }
-        ensures unwritten { (refusal : Refusal) → result ≡ Err (CallFault.Refused refusal) → out.new.items ≡ out.old.items }
-        ensures stays { All (IsOf version) self.new }
-    {
-        match self.place_of(key) {
-            Some(place) => self.list[place].terminate(alloc, version, out),
+            Some(place) => self.list[place].call(alloc, version, call, out),
             None => Err(CallFault::Refused(Refusal::NoChannel)),
         }
     }

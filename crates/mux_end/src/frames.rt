@@ -4,6 +4,7 @@ ghost use Rattle.frame_text.specs.Frames.{fits, fits_id, text};
 ghost use Rattle.mux_items.specs.Bodies.{ChannelTerminated, Content, ContentProcessed, ContentWritingCompleted, Offer, OfferAccepted, frame_on, frame_text, is_one, origin_of};
 ghost use Rattle.mux_items.specs.Due.{written_window};
 ghost use Rattle.mux_items.specs.Limits.{longest_name, piece_size};
+ghost use Rattle.wire_base.specs.declared.limits.TheConstants.{COUNT_LIMIT};
 ghost use Rattle.std.specs.Prelude.{◌≡◌, ◌≤◌, ◌<◌, ◌++◌, length, false, true, OnOk};
 
 use any_codec::AnyCodec;
@@ -100,7 +101,7 @@ pub fn push_processed(
 ) -> Result<(), OutOfMemory>
     requires id { fits_id version key.id ≡ true }
     requires windows { is_one version ≡ false }
-    requires count { count < 0x8000000000000000 }
+    requires count { count < COUNT_LIMIT }
     ensures { OnOk result (out.new.items ≡ out.old.items ++ frame_text version (frame_on key (ContentProcessed count))) }
 {
     let payload = Payload::Processed(count);

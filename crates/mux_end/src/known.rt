@@ -1,17 +1,21 @@
 //! A channel in the list of an end.
 
+ghost use Rattle.frame_text.specs.Frames.{fits_id};
+ghost use Rattle.mux_end.specs.ChannelCalls.{called_frames, called_state, made_state, own_frame, test_of};
 ghost use Rattle.mux_end.specs.Heeded.{IsInRange};
 ghost use Rattle.mux_end.specs.Known.{IsOf, Leaves, Takes, count_in, frames_after, frames_in, heeds, unread_in};
 ghost use Rattle.mux_items.specs.Bodies.{body_of, frame_texts, same_key};
-ghost use Rattle.mux_items.specs.Items.{DidAccept, DidComplete, DidRead, DidTerminate, DidWrite};
+ghost use Rattle.mux_items.specs.Items.{DidAccept, DidRead};
+ghost use Rattle.mux_items.specs.Limits.{greatest_window};
 ghost use Rattle.mux_state.specs.Book.{changed_entry, due_found, entry_at, event_found, frame_on_found, is_kept_standing, kept_in, kept_window, tally_found};
 ghost use Rattle.mux_state.specs.Next.{ended_state, next_state, read_state, settled};
-ghost use Rattle.mux_state.specs.Tests.{accept_test, on_kept, open_test, read_test, view_on, write_test, writing_test};
+ghost use Rattle.mux_state.specs.Tests.{accept_test, on_kept, read_test, view_on};
 ghost use Rattle.std.specs.Prelude.{◌≡◌, ◌≤◌, ◌++◌, Bool, Err, IfOk, None, OnOk, Some, take, true};
 ghost use Rattle.wire_base.specs.declared.frame.Version.{Version};
 ghost use Rattle.wire_base.specs.declared.reason.Reason.{Reason};
 ghost use Rattle.wire_base.specs.declared.refusal.Refusal.{Refusal};
 
+use crate::channel_call::ChannelCall;
 use crate::emission::emit_due;
 use crate::frames::{push_accepted, push_processed, push_terminated};
 use crate::heeding::{event_on, heed};
@@ -44,6 +48,30 @@ impl Model for KnownChannel {
     ghost Value = { Entry };
 
     ghost view = { λ k. entry_in k.key k.standing };
+}
+
+/// Makes a call on a kept channel, and writes the frame of the call itself.
+fn make(
+    version: Version,
+    key: ChannelKey,
+    channel: &mut Channel,
+    call: ChannelCall<'_>,
+    out: &mut Vec<u8>,
+) -> Result<(), CallFault>
+    requires { fits_id version key.id ≡ true }
+    ensures leaves { Leaves (test_of call.entry channel.old) channel.old (made_state call.entry channel.old) channel.new result }
+    ensures output { OnOk result (out.new.items ≡ out.old.items ++ frame_texts version (own_frame key call.entry)) }
+    ensures unwritten { (refusal : Refusal) → result ≡ Err (CallFault.Refused refusal) → out.new.items ≡ out.old.items }
+    ensures one_version { channel.new.version ≡ channel.old.version }
+{
+    match call {
+        ChannelCall::Write(bytes) => channel.write(bytes),
+        ChannelCall::Complete => channel.complete(),
+        ChannelCall::Terminate => {
+            channel.terminate()?;
+            push_terminated(version, key, out).map_err(|_| CallFault::OutOfMemory)
+        }
+    }
 }
 
 impl KnownChannel {
@@ -81,7 +109,7 @@ impl KnownChannel {
     /// The own window, where the channel is kept.
     pub fn window(&self) -> u32
         ensures window { result ≡ kept_window self.now.standing }
-        ensures within { result ≤ 16777216 }
+        ensures within { result ≤ greatest_window }
     {
         match &self.standing {
             Standing::Kept(channel) => channel.window(),
@@ -133,65 +161,26 @@ impl KnownChannel {
         self.finish(alloc, version, out)
     }
 
-    pub fn write(
+    pub fn call(
         &mut self,
         alloc: Global,
         version: Version,
-        bytes: &[u8],
+        call: ChannelCall<'_>,
         out: &mut Vec<u8>,
     ) -> Result<(), CallFault>
         requires { IsOf version self.old }
-        ensures leaves { Leaves (on_kept (kept_in (Some self.old.standing)) (write_test bytes.now)) self.old (changed_entry (next_state (DidWrite self.old.key bytes.now)) self.old) self.new result }
-        ensures output { (running : Bool) → OnOk result (out.new.items ≡ out.old.items ++ frame_texts version (due_found self.old.key running (DidWrite self.old.key bytes.now) (Some self.old.standing))) }
+        ensures leaves { Leaves (on_kept (kept_in (Some self.old.standing)) (test_of call.entry)) self.old (changed_entry (called_state call.entry) self.old) self.new result }
+        ensures output { OnOk result (out.new.items ≡ out.old.items ++ frame_texts version (called_frames self.old.key call.entry (Some self.old.standing))) }
         ensures unwritten { (refusal : Refusal) → result ≡ Err (CallFault.Refused refusal) → out.new.items ≡ out.old.items }
         ensures stays { IsOf version self.new }
     {
         let Standing::Kept(channel) = &mut self.standing else {
             return Err(CallFault::Refused(Refusal::NoChannel));
         };
-        channel.write(bytes)?;
-        self.finish(alloc, version, out)
-    }
-
-    pub fn complete(
-        &mut self,
-        alloc: Global,
-        version: Version,
-        out: &mut Vec<u8>,
-    ) -> Result<(), CallFault>
-        requires { IsOf version self.old }
-        ensures leaves { Leaves (on_kept (kept_in (Some self.old.standing)) writing_test) self.old (changed_entry (next_state (DidComplete self.old.key)) self.old) self.new result }
-        ensures output { (running : Bool) → OnOk result (out.new.items ≡ out.old.items ++ frame_texts version (due_found self.old.key running (DidComplete self.old.key) (Some self.old.standing))) }
-        ensures unwritten { (refusal : Refusal) → result ≡ Err (CallFault.Refused refusal) → out.new.items ≡ out.old.items }
-        ensures stays { IsOf version self.new }
-    {
-        let Standing::Kept(channel) = &mut self.standing else {
-            return Err(CallFault::Refused(Refusal::NoChannel));
-        };
-        match channel.complete() {
+        match make(version, self.key, channel, call, out) {
             Ok(()) => self.finish(alloc, version, out),
             Err(fault) => Err(fault),
         }
-    }
-
-    pub fn terminate(
-        &mut self,
-        alloc: Global,
-        version: Version,
-        out: &mut Vec<u8>,
-    ) -> Result<(), CallFault>
-        requires { IsOf version self.old }
-        ensures leaves { Leaves (on_kept (kept_in (Some self.old.standing)) open_test) self.old (changed_entry (next_state (DidTerminate self.old.key)) self.old) self.new result }
-        ensures output { (running : Bool) → OnOk result (out.new.items ≡ out.old.items ++ frame_texts version (due_found self.old.key running (DidTerminate self.old.key) (Some self.old.standing))) }
-        ensures unwritten { (refusal : Refusal) → result ≡ Err (CallFault.Refused refusal) → out.new.items ≡ out.old.items }
-        ensures stays { IsOf version self.new }
-    {
-        let Standing::Kept(channel) = &mut self.standing else {
-            return Err(CallFault::Refused(Refusal::NoChannel));
-        };
-        channel.terminate()?;
-        push_terminated(version, self.key, out).map_err(|_| CallFault::OutOfMemory)?;
-        self.finish(alloc, version, out)
     }
 
     /// Moves at most `max` unread bytes to the end of `into`, and writes how many they are, where that is to be told.

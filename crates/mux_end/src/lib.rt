@@ -4,6 +4,7 @@
 mod arriving;
 mod book;
 mod calls;
+mod channel_call;
 mod channels;
 mod emission;
 mod end;

@@ -13,6 +13,6 @@ returns-clause-answers c = λ items at rest s.
     let old = c.args.self.now in
     let law = complete_by_book old.version c.args.key items
     ∙ sym (ap (λ (b : Book). unless_ended b.cause (on_kept (kept_in (found c.args.key b)) writing_test)) (ap (λ (e : EndValue). e.book) c.self.view_is ∙ s.book)) in
-    call_answers c.self.inside.nonce c.self.inside.output.items c.complete-completed.new.out.items c.self.inside.book c.complete-completed.new.self c.self.inside.reader items at rest (DidComplete c.args.key) _
-    c.self.inside.stopped old c.finish.new.self (complete_refusal old.version c.args.key items) _ c.complete-completed.result c.finish.result c.self.view_is c.if-self.false s law (λ none. (none, s.allowed))
-    c.complete-completed.ensures.leaves c.complete-completed.ensures.output c.complete-completed.ensures.unwritten (any_answer c.complete-completed.result) c.finish.ensures.state c.finish.ensures.answer
+    call_answers c.self.inside.nonce c.self.inside.output.items c.call-completed.new.out.items c.self.inside.book c.call-completed.new.self c.self.inside.reader items at rest (DidComplete c.args.key) _
+    c.self.inside.stopped old c.finish.new.self (complete_refusal old.version c.args.key items) _ c.call-completed.result c.finish.result c.self.view_is c.if-self.false s law (λ none. (none, s.allowed))
+    c.call-completed.ensures.leaves c.call-completed.ensures.output c.call-completed.ensures.unwritten (any_answer c.call-completed.result) c.finish.ensures.state c.finish.ensures.answer

@@ -13,6 +13,6 @@ returns-clause-answers c = λ items at rest s.
     let old = c.args.self.now in
     let law = terminate_by_book old.version c.args.key items
     ∙ sym (ap (λ (b : Book). unless_ended b.cause (on_kept (kept_in (found c.args.key b)) open_test)) (ap (λ (e : EndValue). e.book) c.self.view_is ∙ s.book)) in
-    call_answers c.self.inside.nonce c.self.inside.output.items c.terminate-terminated.new.out.items c.self.inside.book c.terminate-terminated.new.self c.self.inside.reader items at rest (DidTerminate c.args.key) _
-    c.self.inside.stopped old c.finish.new.self (terminate_refusal old.version c.args.key items) _ c.terminate-terminated.result c.finish.result c.self.view_is c.if-self.false s law (λ none. (none, s.allowed))
-    c.terminate-terminated.ensures.leaves c.terminate-terminated.ensures.output c.terminate-terminated.ensures.unwritten (any_answer c.terminate-terminated.result) c.finish.ensures.state c.finish.ensures.answer
+    call_answers c.self.inside.nonce c.self.inside.output.items c.call-terminated.new.out.items c.self.inside.book c.call-terminated.new.self c.self.inside.reader items at rest (DidTerminate c.args.key) _
+    c.self.inside.stopped old c.finish.new.self (terminate_refusal old.version c.args.key items) _ c.call-terminated.result c.finish.result c.self.view_is c.if-self.false s law (λ none. (none, s.allowed))
+    c.call-terminated.ensures.leaves c.call-terminated.ensures.output c.call-terminated.ensures.unwritten (any_answer c.call-terminated.result) c.finish.ensures.state c.finish.ensures.answer

@@ -13,6 +13,6 @@ returns-clause-answers c = λ items at rest s.
     let old = c.args.self.now in
     let law = write_by_book old.version c.args.key c.args.bytes.now items
     ∙ sym (ap (λ (b : Book). unless_ended b.cause (on_kept (kept_in (found c.args.key b)) (write_test c.args.bytes.now))) (ap (λ (e : EndValue). e.book) c.self.view_is ∙ s.book)) in
-    call_answers c.self.inside.nonce c.self.inside.output.items c.write-written.new.out.items c.self.inside.book c.write-written.new.self c.self.inside.reader items at rest (DidWrite c.args.key c.args.bytes.now) _
-    c.self.inside.stopped old c.finish.new.self (write_refusal old.version c.args.key c.args.bytes.now items) _ c.write-written.result c.finish.result c.self.view_is c.if-self.false s law (λ none. (none, s.allowed))
-    c.write-written.ensures.leaves c.write-written.ensures.output c.write-written.ensures.unwritten (any_answer c.write-written.result) c.finish.ensures.state c.finish.ensures.answer
+    call_answers c.self.inside.nonce c.self.inside.output.items c.call-written.new.out.items c.self.inside.book c.call-written.new.self c.self.inside.reader items at rest (DidWrite c.args.key c.args.bytes.now) _
+    c.self.inside.stopped old c.finish.new.self (write_refusal old.version c.args.key c.args.bytes.now items) _ c.call-written.result c.finish.result c.self.view_is c.if-self.false s law (λ none. (none, s.allowed))
+    c.call-written.ensures.leaves c.call-written.ensures.output c.call-written.ensures.unwritten (any_answer c.call-written.result) c.finish.ensures.state c.finish.ensures.answer
