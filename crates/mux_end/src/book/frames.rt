@@ -4,9 +4,9 @@ ghost use Rattle.frame_text.specs.Frames.{fits, fits_id};
 ghost use Rattle.mux_end.specs.Heeded.{IsInRange};
 ghost use Rattle.mux_end.specs.Keeps.{event_by, heard_book, heard_event, heard_frames, is_full, item_in, later_book, later_in, offer_in};
 ghost use Rattle.mux_end.specs.Known.{Takes, frames_after};
-ghost use Rattle.mux_items.specs.Bodies.{body_of, frame_texts};
+ghost use Rattle.mux_items.specs.Bodies.{ChannelTerminated, body_of, frame_on, frame_texts};
 ghost use Rattle.mux_state.specs.Book.{due_of_book, event_found, found, frame_in, next_book};
-ghost use Rattle.std.specs.Prelude.{◌≡◌, ◌<◌, ◌++◌, ℕ, Err, IfOk, OnOk, true};
+ghost use Rattle.std.specs.Prelude.{◌≡◌, ◌<◌, ◌++◌, ◌∷◌, [], ℕ, Err, IfOk, OnOk, true};
 ghost use Rattle.wire_base.specs.declared.limits.TheConstants.{COUNT_LIMIT};
 ghost use Rattle.wire_base.specs.declared.reason.Reason.{Reason};
 
@@ -70,6 +70,19 @@ impl ChannelBook {
         }
     }
 
+    /// No more channels are kept: this one is terminated and remembered.
+    fn reject(&mut self, key: ChannelKey, out: &mut Vec<u8>) -> Result<(), OutOfMemory>
+        requires { fits_id self.old.version key.id ≡ true }
+        ensures state { OnOk result (self.new ≡ record self.old { rejected = self.old.rejected ++ key ∷ [] }) }
+        ensures output { OnOk result (out.new.items ≡ out.old.items ++ frame_texts self.old.version (frame_on key ChannelTerminated ∷ [])) }
+        ensures one_version { self.new.version ≡ self.old.version }
+        ensures one_party { self.new.party ≡ self.old.party }
+    {
+        push_terminated(self.version, key, out)?;
+        self.rejected.push(key)?;
+        Ok(())
+    }
+
     fn hear(
         &mut self,
         key: ChannelKey,
@@ -85,8 +98,7 @@ impl ChannelBook {
         ensures one_party { self.new.party ≡ self.old.party }
     {
         if self.channels.kept_count() >= MOST_CHANNELS {
-            push_terminated(self.version, key, out)?;
-            self.rejected.push(key)?;
+            self.reject(key, out)?;
             return Ok(MuxEvent::Rejected(key));
         }
         let channel = Channel::heard(self.alloc, self.version, peer_window);
