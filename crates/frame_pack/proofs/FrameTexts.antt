@@ -2,6 +2,7 @@
 use Rattle.std.proofs.Common.{◌≡◌, ℕ, ◌+◌, ◌≤◌, ◌<◌, true, false, Bool, cond, List, [], ◌∷◌, ◌++◌, length, Option, Some, None, refl, sym, ap, ◌∙◌, arith, append_assoc}
 use Rattle.std.proofs.lemmas.Bool.{and_parts, leb-true}
 use Rattle.std.proofs.lemmas.List.{append-nil}
+use Rattle.wire_base.specs.declared.limits.TheConstants.{MAX_PAYLOAD}
 use Rattle.wire_base.specs.declared.frame.Version.{Version}
 use Rattle.wire_base.specs.declared.frame.Version.TheVariants as version
 use Rattle.wire_base.specs.declared.frame.Frame.{Frame}
@@ -36,10 +37,10 @@ text-parts v f n p e h = rw e (sym (text-packed v f p ∙ full-text (elements v)
 pub text-full : (v : Version) (f : Frame) (n : ℕ) → is_packed v ≡ true → n ≡ elements v → 0 < length (payload_text f.payload) → (front_text (n + 1) f ++ bin_head (length (payload_text f.payload))) ++ payload_text f.payload ≡ text v f
 text-full v f n p e h = append_assoc (front_text (n + 1) f) (bin_head (length (payload_text f.payload))) (payload_text f.payload) ∙ text-parts v f n p e h
 
-pub fits-length : (v : Version) (f : Frame) → is_packed v ≡ true → fits v f ≡ true → length (payload_text f.payload) ≤ 0x100000
+pub fits-length : (v : Version) (f : Frame) → is_packed v ≡ true → fits v f ≡ true → length (payload_text f.payload) ≤ MAX_PAYLOAD
 fits-length version.One f p e = absurd cc
-fits-length version.Two f p e = leb-true (length (payload_text f.payload)) 0x100000 (and_parts _ _ e).1
-fits-length version.Three f p e = leb-true (length (payload_text f.payload)) 0x100000 (and_parts _ _ e).1
+fits-length version.Two f p e = leb-true (length (payload_text f.payload)) MAX_PAYLOAD (and_parts _ _ e).1
+fits-length version.Three f p e = leb-true (length (payload_text f.payload)) MAX_PAYLOAD (and_parts _ _ e).1
 
 -- ---- payloads that memory cut off
 

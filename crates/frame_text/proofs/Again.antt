@@ -4,6 +4,7 @@ use Rattle.std.specs.Prelude.{pos, negsuc}
 use Rattle.std.proofs.lemmas.Bool.{le-ltb, lt-ltb, eq-eqb, ne_eqb}
 use Rattle.std.proofs.lemmas.List.{take_at, drop_at, append-nil}
 use Rattle.std.specs.Str.{is_utf8}
+use Rattle.wire_base.specs.declared.limits.TheConstants.{COUNT_LIMIT, MAX_PAYLOAD}
 use Rattle.wire_base.specs.declared.token.TokenHead.TheVariants as token
 use Rattle.wire_base.specs.declared.reason.Reason.{Reason}
 use Rattle.wire_base.specs.declared.reason.Reason.TheVariants.{BadCode, BadShape, BadId, BadSource, BadOffer, BadAcceptance, BadProcessed}
@@ -34,8 +35,8 @@ code_in-again code.ContentWritingCompleted = refl
 code_in-again code.ChannelTerminated = refl
 code_in-again code.ContentProcessed = refl
 
-id_in-again : (n : ℕ) → 0 < n → n < 0x8000000000000000 → id_in (pos n) ≡ Some n
-id_in-again n some below = rw (lt-ltb 0 n some, lt-ltb n 0x8000000000000000 below) refl
+id_in-again : (n : ℕ) → 0 < n → n < COUNT_LIMIT → id_in (pos n) ≡ Some n
+id_in-again n some below = rw (lt-ltb 0 n some, lt-ltb n COUNT_LIMIT below) refl
 
 abbrev present : Option ℕ → Bool
 present None = false
@@ -107,9 +108,9 @@ carried-again c p bytes is = absurd is
 
 -- ---- a payload's element
 
-run_of-again : (total : ℕ) (bytes rest : List ℕ) → length bytes ≤ 0x100000 → run_of total (length bytes) (bytes ++ rest) ≡ Ok (bytes, rest)
+run_of-again : (total : ℕ) (bytes rest : List ℕ) → length bytes ≤ MAX_PAYLOAD → run_of total (length bytes) (bytes ++ rest) ≡ Ok (bytes, rest)
 run_of-again total bytes rest most =
-    let few : ltb 0x100000 (length bytes) ≡ false = le-ltb 0x100000 (length bytes) most in
+    let few : ltb MAX_PAYLOAD (length bytes) ≡ false = le-ltb MAX_PAYLOAD (length bytes) most in
     let long : ltb (length (bytes ++ rest)) (length bytes) ≡ false = le-ltb (length (bytes ++ rest)) (length bytes) (omega (arith, length-append bytes rest)) in
     rw (few, long, take_at bytes rest (length bytes) refl, drop_at bytes rest (length bytes) refl) refl
 

@@ -4,6 +4,7 @@ use Rattle.std.specs.Prelude.{◌&&◌, nat_lt, ◌==◌, ℤ, pos, negsuc}
 use Rattle.std.proofs.lemmas.Bool.{ltb-true, ltb-false, eqb-true, and_parts}
 use Rattle.std.proofs.lemmas.List.{take-append-drop, length-take, append-nil, take_at, length-take-le}
 use Rattle.std.specs.Str.{is_utf8}
+use Rattle.wire_base.specs.declared.limits.TheConstants.{COUNT_LIMIT, MAX_PAYLOAD}
 use Rattle.wire_base.specs.Head.{kind_of, head_of}
 use Rattle.wire_base.specs.declared.token.HeadStep.{HeadStep}
 use Rattle.wire_base.specs.declared.token.TokenHead.{TokenHead}
@@ -221,21 +222,21 @@ guarded false n m e = absurd cc
 pub record IdFound (z : ℤ) (m : ℕ) : Type 0 where
   pub number : z ≡ pos m
   pub some : 0 < m
-  pub below : m < 0x8000000000000000
+  pub below : m < COUNT_LIMIT
 
 id_in-found : (z : ℤ) (m : ℕ) → id_in z ≡ Some m → IdFound z m
 id_in-found (pos n) m e =
-    let g = guarded (nat_lt 0 n && nat_lt n 0x8000000000000000) n m e in
-    let p = and_parts (nat_lt 0 n) (nat_lt n 0x8000000000000000) g.0 in
+    let g = guarded (nat_lt 0 n && nat_lt n COUNT_LIMIT) n m e in
+    let p = and_parts (nat_lt 0 n) (nat_lt n COUNT_LIMIT) g.0 in
     let some : 0 < n = ltb-true 0 n p.0 in
-    let below : n < 0x8000000000000000 = ltb-true n 0x8000000000000000 p.1 in
+    let below : n < COUNT_LIMIT = ltb-true n COUNT_LIMIT p.1 in
     record { number = ap pos g.1; some = omega (arith, g.1); below = omega (arith, g.1) }
 id_in-found (negsuc k) m e = absurd cc
 
-count_in-found : (z : ℤ) (m : ℕ) → count_in z ≡ Some m → (z ≡ pos m) × (m < 0x8000000000000000)
+count_in-found : (z : ℤ) (m : ℕ) → count_in z ≡ Some m → (z ≡ pos m) × (m < COUNT_LIMIT)
 count_in-found (pos n) m e =
-    let g = guarded (nat_lt n 0x8000000000000000) n m e in
-    let below : n < 0x8000000000000000 = ltb-true n 0x8000000000000000 g.0 in
+    let g = guarded (nat_lt n COUNT_LIMIT) n m e in
+    let below : n < COUNT_LIMIT = ltb-true n COUNT_LIMIT g.0 in
     (ap pos g.1, omega (arith, g.1))
 count_in-found (negsuc k) m e = absurd cc
 
@@ -485,18 +486,18 @@ pub record FoundElement (has : Bool) (bytes x rest : List ℕ) : Type 0 where
 
 pub record Run (n : ℕ) (bytes x rest : List ℕ) : Type 0 where
   pub len : length x ≡ n
-  pub most : n ≤ 0x100000
+  pub most : n ≤ MAX_PAYLOAD
   pub parts : bytes ≡ x ++ rest
 
 run_of-found : (total n : ℕ) (bytes x rest : List ℕ) → run_of total n bytes ≡ Ok (x, rest) → Run n bytes x rest
-run_of-found total n bytes x rest e = elim (tested (ltb 0x100000 n)) [
+run_of-found total n bytes x rest e = elim (tested (ltb MAX_PAYLOAD n)) [
   | inl t ↦ let f : Err (Breaks total PayloadTooLong) ≡ read_as x rest = rw t at e in absurd cc
   | inr t ↦ elim (tested (ltb (length bytes) n)) [
     | inl u ↦ let f : Err Ends ≡ read_as x rest = rw (t, u) at e in absurd cc
     | inr u ↦
         let f : read_as (take n bytes) (drop n bytes) ≡ read_as x rest = rw (t, u) at e in
         let long : n ≤ length bytes = ltb-false (length bytes) n u in
-        let most : n ≤ 0x100000 = ltb-false 0x100000 n t in
+        let most : n ≤ MAX_PAYLOAD = ltb-false MAX_PAYLOAD n t in
         subst (λ (p : List ℕ × List ℕ). Run n bytes p.0 p.1) (pair_is (take n bytes, drop n bytes) (x, rest) f)
         (record { len = simp length-take (omega arith); most = most; parts = sym (take-append-drop n bytes) })
   ]

@@ -6,6 +6,7 @@ use Rattle.std.specs.Str.{is_utf8}
 use Rattle.std.proofs.lemmas.Nat.{from_be_bytes-to_be_bytes_2, from_be_bytes-to_be_bytes_4}
 use Rattle.std.proofs.lemmas.Bool.{ltb-true, ltb-false, lt-ltb, leb-true, le-leb, eqb-false, ne_eqb, and_parts, and_from}
 use Rattle.std.proofs.lemmas.List.{take_at, take-append-drop, length-take}
+use Rattle.wire_base.specs.declared.limits.TheConstants.{MAX_PLAIN_PAYLOAD, PLAIN_ID_LIMIT}
 use Rattle.wire_base.specs.declared.reason.Reason.{Reason}
 use Rattle.wire_base.specs.declared.reason.Reason.TheVariants.{BadCode, BadShape, BadId, BadName}
 use Rattle.wire_base.specs.declared.frame.Version.TheVariants as version
@@ -240,9 +241,9 @@ plain_front_spelled bytes f size e =
 record Fitting (f : Frame) : Type 0 where
   code : fits_code version.One f.code f.payload ≡ true
   some_id : 0 < f.id
-  id_below : f.id < 0x100000000
+  id_below : f.id < PLAIN_ID_LIMIT
   origin : fits_origin version.One f.origin ≡ true
-  most : length (plain_payload f.payload) ≤ 0xffff
+  most : length (plain_payload f.payload) ≤ MAX_PLAIN_PAYLOAD
 
 fitting : (f : Frame) → fits version.One f ≡ true → Fitting f
 fitting f e =
@@ -252,8 +253,8 @@ fitting f e =
     let a = and_parts (c && i && o) (fits_length version.One f.payload) e in
     let b = and_parts (c && i) o a.0 in
     let d = and_parts c i b.0 in
-    let n = and_parts (nat_lt 0 f.id) (nat_lt f.id 0x100000000) d.1 in
-    record { code = d.0; some_id = ltb-true 0 f.id n.0; id_below = ltb-true f.id 0x100000000 n.1; origin = b.1; most = leb-true (length (plain_payload f.payload)) 0xffff a.1 }
+    let n = and_parts (nat_lt 0 f.id) (nat_lt f.id PLAIN_ID_LIMIT) d.1 in
+    record { code = d.0; some_id = ltb-true 0 f.id n.0; id_below = ltb-true f.id PLAIN_ID_LIMIT n.1; origin = b.1; most = leb-true (length (plain_payload f.payload)) MAX_PLAIN_PAYLOAD a.1 }
 
 by_parity : (o : Origin) → fits_origin version.One o ≡ true → o ≡ origin.ByParity
 by_parity origin.ByParity e = refl
@@ -308,16 +309,16 @@ spelled_plain_fits f b h is =
     let o = fits_origin version.One f.origin in
     let s = is.size ++ is.bytes in
     let h1 : AreBytes (is.id ++ s) = bytes_right (code_number f.code ∷ []) (is.id ++ s) (subst AreBytes is.parts h) in
-    let below : from_be_bytes w32 is.id < 0x100000000 = below-4 is.id (bytes_left is.id s h1) in
+    let below : from_be_bytes w32 is.id < PLAIN_ID_LIMIT = below-4 is.id (bytes_left is.id s h1) in
     let few : from_be_bytes w16 is.size < 0x10000 = below-2 is.size (bytes_left is.size is.bytes (bytes_right is.id s h1)) in
     let p = carries-fits f.code f.payload is.bytes is.carries in
-    let id_below : f.id < 0x100000000 = omega (arith, below, is.is_id) in
-    let most : length (plain_payload f.payload) ≤ 0xffff = omega (arith, few, is.is_size, p.1) in
+    let id_below : f.id < PLAIN_ID_LIMIT = omega (arith, below, is.is_id) in
+    let most : length (plain_payload f.payload) ≤ MAX_PLAIN_PAYLOAD = omega (arith, few, is.is_size, p.1) in
     and_from (c && i && o) (fits_length version.One f.payload)
     (and_from (c && i) o
-    (and_from c i p.0 (and_from (nat_lt 0 f.id) (nat_lt f.id 0x100000000) (lt-ltb 0 f.id is.some_id) (lt-ltb f.id 0x100000000 id_below)))
+    (and_from c i p.0 (and_from (nat_lt 0 f.id) (nat_lt f.id PLAIN_ID_LIMIT) (lt-ltb 0 f.id is.some_id) (lt-ltb f.id PLAIN_ID_LIMIT id_below)))
     (origin-fits f.origin is.is_origin))
-    (le-leb (length (plain_payload f.payload)) 0xffff most)
+    (le-leb (length (plain_payload f.payload)) MAX_PLAIN_PAYLOAD most)
 
 -- no spelling is shorter than the text
 pub plain_text-shortest : (f : Frame) (b : List ℕ) → PlainFrameIs f b → length (text version.One f) ≤ length b

@@ -6,6 +6,7 @@ use mir.Val.{bits, hbits}
 use Rattle.std.specs.Str.{is_utf8}
 use Rattle.std.proofs.lemmas.Bool.{cases_lt, le-ltb, lt-ltb, ltb-true, le-leb, and_from}
 use Rattle.std.proofs.lemmas.List.{take-append-drop}
+use Rattle.wire_base.specs.declared.limits.TheConstants.{COUNT_LIMIT, MAX_PAYLOAD}
 use Rattle.wire_base.specs.Head.{Kind, whole_head, unsigned, signed, str, bin, array, map, refused, kind_of, lettered, numbered, read_kind}
 use Rattle.wire_base.specs.declared.token.TokenHead.{TokenHead}
 use Rattle.wire_base.specs.declared.token.TokenHead.TheVariants as token
@@ -302,7 +303,7 @@ carries-shortest c p bytes h is = absurd is
 
 optional-fits : (window : Option ℕ) (b : List ℕ) → IsOptional window b → is_count window ≡ true
 optional-fits None b is = refl
-optional-fits (Some n) b is = lt-ltb n 0x8000000000000000 is.1
+optional-fits (Some n) b is = lt-ltb n COUNT_LIMIT is.1
 
 carries-fits : (c : Code) (p : Payload) (bytes : List ℕ) → Carries c p bytes → fits_code version.Two c p ≡ true
 carries-fits code.Offer (payload.Offer name window) bytes is = and_from (is_utf8 name) (is_count window) is.is_name.utf8 (optional-fits window is.second is.is_window)
@@ -320,7 +321,7 @@ source-fits version.Three origin.Sender b is = refl
 source-fits version.Three origin.Receiver b is = refl
 source-fits v o b is = absurd is
 
-element-most : (has : Bool) (bytes b : List ℕ) → IsElement has bytes b → length bytes ≤ 0x100000
+element-most : (has : Bool) (bytes b : List ℕ) → IsElement has bytes b → length bytes ≤ MAX_PAYLOAD
 element-most false bytes b is = omega (arith, ap length is.0)
 element-most true bytes b is = is.most
 
@@ -346,7 +347,7 @@ frame-bytes v f b is h =
     let last : AreBytes is.last = bytes_right is.third is.last h3 in
     record { first = bytes_left is.first s2 h1; second = bytes_left is.second s3 h2; last = last; bytes = element-bytes is.has_payload is.bytes is.last is.is_payload last }
 
-payload-most : (v : Version) (f : Frame) (b : List ℕ) → AreBytes b → PackedFrameIs v f b → length (payload_text f.payload) ≤ 0x100000
+payload-most : (v : Version) (f : Frame) (b : List ℕ) → AreBytes b → PackedFrameIs v f b → length (payload_text f.payload) ≤ MAX_PAYLOAD
 payload-most v f b h is =
     let parts = frame-bytes v f b is h in
     let short = carries-shortest f.code f.payload is.bytes parts.bytes is.carries in
@@ -360,9 +361,9 @@ packed-fits v f b h is =
     let o = fits_origin v f.origin in
     and_from (c && i && o) (fits_length version.Two f.payload)
     (and_from (c && i) o
-    (and_from c i (carries-fits f.code f.payload is.bytes is.carries) (and_from (nat_lt 0 f.id) (nat_lt f.id 0x8000000000000000) (lt-ltb 0 f.id is.some_id) (lt-ltb f.id 0x8000000000000000 is.id_below)))
+    (and_from c i (carries-fits f.code f.payload is.bytes is.carries) (and_from (nat_lt 0 f.id) (nat_lt f.id COUNT_LIMIT) (lt-ltb 0 f.id is.some_id) (lt-ltb f.id COUNT_LIMIT is.id_below)))
     (source-fits v f.origin is.third is.is_source))
-    (le-leb (length (payload_text f.payload)) 0x100000 (payload-most v f b h is))
+    (le-leb (length (payload_text f.payload)) MAX_PAYLOAD (payload-most v f b h is))
 
 pub spelled_fits : (v : Version) (f : Frame) (b : List ℕ) → is_packed v ≡ true → AreBytes b → FrameIs v f b → fits v f ≡ true
 spelled_fits version.One f b p h is = absurd cc

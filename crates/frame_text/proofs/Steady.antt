@@ -3,6 +3,7 @@ use Rattle.std.proofs.Common.{◌≡◌, ℕ, ◌+◌, ◌≤◌, ◌<◌, Bool,
 use Rattle.std.specs.Int.{w8, w16, w32}
 use Rattle.std.proofs.lemmas.Bool.{ltb-false, le-ltb}
 use Rattle.std.proofs.lemmas.List.{take-append-le, drop-append-le}
+use Rattle.wire_base.specs.declared.limits.TheConstants.{MAX_PAYLOAD}
 use Rattle.wire_base.specs.declared.reason.Reason.{Reason}
 use Rattle.wire_base.specs.declared.reason.Reason.TheVariants.{BadCode, BadShape, BadId, BadSource}
 use Rattle.wire_base.specs.declared.frame.Version.{Version}
@@ -25,7 +26,7 @@ use Rattle.frame_text.proofs.Within.{is_front-within}
 
 run_of-steady : (total n : ℕ) (rest more : List ℕ) → IsSteady more (run_of total n rest) (run_of (total + length more) n (rest ++ more))
 run_of-steady total n rest more =
-    elim (tested (ltb 0x100000 n)) [
+    elim (tested (ltb MAX_PAYLOAD n)) [
       | inl e ↦ rw e refl
       | inr e ↦ elim (tested (ltb (length rest) n)) [
         | inl d ↦ rw (e, d) tt

@@ -4,6 +4,7 @@ use Rattle.std.specs.Prelude.{◌&&◌, nat_lt, pos}
 use Rattle.std.specs.Str.{is_utf8}
 use Rattle.std.proofs.lemmas.Bool.{ltb-true, leb-true, and_parts}
 use Rattle.std.proofs.lemmas.List.{append-nil}
+use Rattle.wire_base.specs.declared.limits.TheConstants.{COUNT_LIMIT, MAX_PAYLOAD}
 use Rattle.wire_base.specs.declared.token.TokenHead.TheVariants as token
 use Rattle.wire_base.specs.declared.frame.Version.{Version}
 use Rattle.wire_base.specs.declared.frame.Version.TheVariants as version
@@ -32,7 +33,7 @@ optional_text (Some n) = unsigned_text n
 is_optional-text : (window : Option ℕ) → is_count window ≡ true → IsOptional window (optional_text window)
 is_optional-text None fit = refl
 is_optional-text (Some n) fit =
-    let below : n < 0x8000000000000000 = ltb-true n 0x8000000000000000 fit in
+    let below : n < COUNT_LIMIT = ltb-true n COUNT_LIMIT fit in
     (is_unsigned n (omega (arith, below)), below)
 
 is_name-text : (name : List ℕ) → is_utf8 name ≡ true → length name < 2 ^ 32 → IsName name (str_text name)
@@ -54,13 +55,13 @@ accepted_array : (window : Option ℕ) → IsHead (token.Array (with_optional 0 
 accepted_array None = refl
 accepted_array (Some n) = refl
 
-name-fits : (name : List ℕ) (window : Option ℕ) → length (payload_text (payload.Offer name window)) ≤ 0x100000 → length name < 2 ^ 32
+name-fits : (name : List ℕ) (window : Option ℕ) → length (payload_text (payload.Offer name window)) ≤ MAX_PAYLOAD → length name < 2 ^ 32
 name-fits name window h =
     let p : length (payload_text (payload.Offer name window)) ≡ length (array_head (with_optional 1 window)) + (length (str_head (length name)) + length name + length (optional_text window)) =
     ap length (offer-text name window) ∙ simp length-append in
     omega (arith, p)
 
-carries-text : (c : Code) (p : Payload) → fits_code version.Two c p ≡ true → length (payload_text p) ≤ 0x100000 → Carries c p (payload_text p)
+carries-text : (c : Code) (p : Payload) → fits_code version.Two c p ≡ true → length (payload_text p) ≤ MAX_PAYLOAD → Carries c p (payload_text p)
 carries-text code.Offer (payload.Offer name window) fit h =
     let both = and_parts (is_utf8 name) (is_count window) fit in
     record {
@@ -114,7 +115,7 @@ text_with v f bytes =
     array_head (cond (is_empty bytes) (elements v) (elements v + 1))
     ++ unsigned_text (code_number f.code) ++ unsigned_text f.id ++ origin_text f.origin ++ payload_element bytes
 
-text_with-is : (v : Version) (f : Frame) (bytes : List ℕ) → is_packed v ≡ true → 0 < f.id → f.id < 0x8000000000000000 → fits_origin v f.origin ≡ true → length bytes ≤ 0x100000 → Carries f.code f.payload bytes → PackedFrameIs v f (text_with v f bytes)
+text_with-is : (v : Version) (f : Frame) (bytes : List ℕ) → is_packed v ≡ true → 0 < f.id → f.id < COUNT_LIMIT → fits_origin v f.origin ≡ true → length bytes ≤ MAX_PAYLOAD → Carries f.code f.payload bytes → PackedFrameIs v f (text_with v f bytes)
 text_with-is v f [] p some below source most carries = record {
   has_payload = false;
   array = array_head (elements v);
@@ -158,9 +159,9 @@ text_with-is v f (b ∷ bytes) p some below source most carries =
 pub record Fitting (v : Version) (f : Frame) : Type 0 where
   pub code : fits_code version.Two f.code f.payload ≡ true
   pub some_id : 0 < f.id
-  pub id_below : f.id < 0x8000000000000000
+  pub id_below : f.id < COUNT_LIMIT
   pub origin : fits_origin v f.origin ≡ true
-  pub most : length (payload_text f.payload) ≤ 0x100000
+  pub most : length (payload_text f.payload) ≤ MAX_PAYLOAD
 
 fitting-parts : (v : Version) (f : Frame) → (fits_code version.Two f.code f.payload && fits_id version.Two f.id && fits_origin v f.origin && fits_length version.Two f.payload) ≡ true → Fitting v f
 fitting-parts v f e =
@@ -170,13 +171,13 @@ fitting-parts v f e =
     let a = and_parts (c && i && o) (fits_length version.Two f.payload) e in
     let b = and_parts (c && i) o a.0 in
     let d = and_parts c i b.0 in
-    let n = and_parts (nat_lt 0 f.id) (nat_lt f.id 0x8000000000000000) d.1 in
+    let n = and_parts (nat_lt 0 f.id) (nat_lt f.id COUNT_LIMIT) d.1 in
     record {
       code = d.0;
       some_id = ltb-true 0 f.id n.0;
-      id_below = ltb-true f.id 0x8000000000000000 n.1;
+      id_below = ltb-true f.id COUNT_LIMIT n.1;
       origin = b.1;
-      most = leb-true (length (payload_text f.payload)) 0x100000 a.1;
+      most = leb-true (length (payload_text f.payload)) MAX_PAYLOAD a.1;
     }
 
 pub fitting : (v : Version) (f : Frame) → is_packed v ≡ true → fits v f ≡ true → Fitting v f

@@ -1,10 +1,11 @@
 -- A reading stops within the bytes that it was given, and near their front.
-use Rattle.std.proofs.Common.{◌≡◌, ℕ, ◌+◌, ◌≤◌, ◌<◌, Bool, true, false, cond, ltb, List, length, take, drop, Some, None, Result, Ok, Err, arith, length-drop, inl, inr, subst}
+use Rattle.std.proofs.Common.{◌≡◌, ℕ, ◌+◌, ◌*◌, ◌≤◌, ◌<◌, Bool, true, false, cond, ltb, List, length, take, drop, Some, None, Result, Ok, Err, arith, length-drop, inl, inr, subst}
 use Rattle.std.specs.Prelude.{◌==◌}
 use Rattle.std.specs.Int.{w8, w16, w32}
 use Rattle.std.specs.Str.{is_utf8}
 use Rattle.std.proofs.lemmas.Bool.{ltb-false}
 use Rattle.std.proofs.lemmas.List.{length-take}
+use Rattle.wire_base.specs.declared.limits.TheConstants.{FRAME_BOUND, MAX_PAYLOAD}
 use Rattle.wire_base.specs.Head.{head_of}
 use Rattle.wire_base.specs.declared.reason.Reason.{Reason}
 use Rattle.wire_base.specs.declared.reason.Reason.TheVariants.{BadCode, BadShape, BadId, BadSource, BadOffer, BadAcceptance, BadProcessed, BadName}
@@ -110,40 +111,40 @@ IsRun most total (Ok x) = (length x.0 + length x.1 ≤ total) × (total ≤ leng
 IsRun most total (Err Ends) = Unit {0}
 IsRun most total (Err (Breaks left reason)) = (left ≤ total) × (total ≤ left + 17)
 
-run_of-is : (total n : ℕ) (rest : List ℕ) → length rest ≤ total → total ≤ length rest + 17 → IsRun 0x100000 total (run_of total n rest)
+run_of-is : (total n : ℕ) (rest : List ℕ) → length rest ≤ total → total ≤ length rest + 17 → IsRun MAX_PAYLOAD total (run_of total n rest)
 run_of-is total n rest a b =
-    elim (tested (ltb 0x100000 n)) [
+    elim (tested (ltb MAX_PAYLOAD n)) [
       | inl e ↦ rw e (omega arith, omega arith)
       | inr e ↦ elim (tested (ltb (length rest) n)) [
         | inl d ↦ rw (e, d) tt
         | inr d ↦
-            let most : n ≤ 0x100000 = ltb-false 0x100000 n e in
+            let most : n ≤ MAX_PAYLOAD = ltb-false MAX_PAYLOAD n e in
             let long : n ≤ length rest = ltb-false (length rest) n d in
             rw (e, d) (omega (arith, length-take n rest, length-drop n rest), omega (arith, length-take n rest, length-drop n rest), omega (arith, length-take n rest))
       ]
     ]
 
-run-follows : (total : ℕ) (r : Reading ℕ) → IsWithin 1 17 total r → IsRun 0x100000 total (follow r (run_of total))
+run-follows : (total : ℕ) (r : Reading ℕ) → IsWithin 1 17 total r → IsRun MAX_PAYLOAD total (follow r (run_of total))
 run-follows total (Ok x) h = run_of-is total x.0 x.1 (omega (arith, h.0)) h.1
 run-follows total (Err Ends) h = tt
 run-follows total (Err (Breaks left reason)) h = h
 
-pub payload_at-is : (present : Bool) (bytes : List ℕ) → IsRun 0x100000 (length bytes) (payload_at present bytes)
+pub payload_at-is : (present : Bool) (bytes : List ℕ) → IsRun MAX_PAYLOAD (length bytes) (payload_at present bytes)
 unfolding payload_at
 payload_at-is false bytes = (omega arith, omega arith, omega arith)
 payload_at-is true bytes = run-follows (length bytes) (head_at a_bin BadShape bytes) ((head_at-stops a_bin BadShape).at bytes)
 
-placed-within : {A : Type 0} (total : ℕ) (front rest : List ℕ) (r : Result A Fault) → length front + length rest ≤ total → total ≤ length front + length rest + 17 → length front ≤ 0x100000 → IsAmong (length front) r → IsWithin 0 0x100011 total (placed r rest)
+placed-within : {A : Type 0} (total : ℕ) (front rest : List ℕ) (r : Result A Fault) → length front + length rest ≤ total → total ≤ length front + length rest + 17 → length front ≤ MAX_PAYLOAD → IsAmong (length front) r → IsWithin 0 (MAX_PAYLOAD + 17) total (placed r rest)
 placed-within total front rest (Ok x) a b c h = (omega arith, omega arith)
 placed-within total front rest (Err Ends) a b c h = tt
 placed-within total front rest (Err (Breaks left reason)) a b c h = (omega (arith, h), omega (arith, h))
 
-run-within : {A : Type 0} (total : ℕ) (r : Reading (List ℕ)) (make : List ℕ → Result A Fault) → ((bytes : List ℕ) → IsAmong (length bytes) (make bytes)) → IsRun 0x100000 total r → IsWithin 0 0x100011 total (follow r (λ bytes. placed (make bytes)))
+run-within : {A : Type 0} (total : ℕ) (r : Reading (List ℕ)) (make : List ℕ → Result A Fault) → ((bytes : List ℕ) → IsAmong (length bytes) (make bytes)) → IsRun MAX_PAYLOAD total r → IsWithin 0 (MAX_PAYLOAD + 17) total (follow r (λ bytes. placed (make bytes)))
 run-within total (Ok x) make among h = placed-within total x.0 x.1 (make x.0) h.0 h.1 h.2 (among x.0)
 run-within total (Err Ends) make among h = tt
 run-within total (Err (Breaks left reason)) make among h = (h.0, omega (arith, h.1))
 
-content_at-stops : (present : Bool) (c : Code) → Stops 0 0x100011 (content_at present c)
+content_at-stops : (present : Bool) (c : Code) → Stops 0 (MAX_PAYLOAD + 17) (content_at present c)
 unfolding content_at
 content_at-stops present c = record { at = λ bytes. run-within (length bytes) (payload_at present bytes) (carried c) (carried-among c) (payload_at-is present bytes) }
 
@@ -159,14 +160,14 @@ origin_at-stops version.One = record { at = λ bytes. (omega arith, omega arith)
 origin_at-stops version.Two = record { at = λ bytes. (omega arith, omega arith) }
 origin_at-stops version.Three = record { at = λ bytes. eased (length bytes) (token_at a_number origin_in BadSource bytes) ((token_at-stops a_number origin_in BadSource).at bytes) }
 
-pub packed_at-stops : (v : Version) → Stops 3 0x100055 (packed_at v)
+pub packed_at-stops : (v : Version) → Stops 3 FRAME_BOUND (packed_at v)
 unfolding packed_at
 packed_at-stops v =
-    stops-then 1 17 2 0x100044 (token_at an_array (last_in (elements v)) BadShape) _ (token_at-stops an_array (last_in (elements v)) BadShape) (λ has.
-    stops-then 1 17 1 0x100033 (token_at a_number code_in BadCode) _ (token_at-stops a_number code_in BadCode) (λ c.
-    stops-then 1 17 0 0x100022 (token_at a_number id_in BadId) _ (token_at-stops a_number id_in BadId) (λ id.
-    stops-then 0 17 0 0x100011 (origin_at v) _ (origin_at-stops v) (λ source.
-    stops-then 0 0x100011 0 0 (content_at has c) _ (content_at-stops has c) (λ content.
+    stops-then 1 17 2 (MAX_PAYLOAD + 4 * 17) (token_at an_array (last_in (elements v)) BadShape) _ (token_at-stops an_array (last_in (elements v)) BadShape) (λ has.
+    stops-then 1 17 1 (MAX_PAYLOAD + 3 * 17) (token_at a_number code_in BadCode) _ (token_at-stops a_number code_in BadCode) (λ c.
+    stops-then 1 17 0 (MAX_PAYLOAD + 2 * 17) (token_at a_number id_in BadId) _ (token_at-stops a_number id_in BadId) (λ id.
+    stops-then 0 17 0 (MAX_PAYLOAD + 17) (origin_at v) _ (origin_at-stops v) (λ source.
+    stops-then 0 (MAX_PAYLOAD + 17) 0 0 (content_at has c) _ (content_at-stops has c) (λ content.
     stops-done (record { code = c; id = id; origin = source; payload = content }))))))
 
 -- ---- frames of version 1
@@ -197,7 +198,7 @@ plain_at-proper bytes =
     below-done (record { code = c; id = id; origin = origin.ByParity; payload = content })))))
 
 packed_at-proper : (v : Version) (bytes : List ℕ) → IsProper (length bytes) (packed_at v bytes)
-packed_at-proper v bytes = proper-from 3 0x100055 (length bytes) (packed_at v bytes) (omega arith) ((packed_at-stops v).at bytes)
+packed_at-proper v bytes = proper-from 3 FRAME_BOUND (length bytes) (packed_at v bytes) (omega arith) ((packed_at-stops v).at bytes)
 
 pub frame_at-proper : (v : Version) (bytes : List ℕ) → IsProper (length bytes) (frame_at v bytes)
 frame_at-proper version.One bytes = plain_at-proper bytes
@@ -217,11 +218,11 @@ pub broken_within : (v : Version) (bytes : List ℕ) (offset : ℕ) (reason : Re
 broken_within v bytes offset reason e = subst (λ (x : Front). IsFrontWithin (length bytes) x) e (is_front-within v bytes)
 
 abbrev IsFrontNear : Front → Type 0
-IsFrontNear (Whole frame size) = size ≤ 0x100055
+IsFrontNear (Whole frame size) = size ≤ FRAME_BOUND
 IsFrontNear Short = Unit {0}
-IsFrontNear (Broken offset reason) = offset ≤ 0x100055
+IsFrontNear (Broken offset reason) = offset ≤ FRAME_BOUND
 
-front_of-near : (total : ℕ) (r : Reading Frame) → IsWithin 3 0x100055 total r → IsFrontNear (front_of total r)
+front_of-near : (total : ℕ) (r : Reading Frame) → IsWithin 3 FRAME_BOUND total r → IsFrontNear (front_of total r)
 front_of-near total (Ok x) h = omega (arith, h.1)
 front_of-near total (Err Ends) h = tt
 front_of-near total (Err (Breaks left reason)) h = omega (arith, h.1)
@@ -232,15 +233,15 @@ is_front-near version.One bytes e = absurd cc
 is_front-near version.Two bytes e = front_of-near (length bytes) (packed_at version.Two bytes) ((packed_at-stops version.Two).at bytes)
 is_front-near version.Three bytes e = front_of-near (length bytes) (packed_at version.Three bytes) ((packed_at-stops version.Three).at bytes)
 
-pub broken_near : (v : Version) (bytes : List ℕ) (offset : ℕ) (reason : Reason) → is_packed v ≡ true → front v bytes ≡ Broken offset reason → offset ≤ 0x100055
+pub broken_near : (v : Version) (bytes : List ℕ) (offset : ℕ) (reason : Reason) → is_packed v ≡ true → front v bytes ≡ Broken offset reason → offset ≤ FRAME_BOUND
 broken_near v bytes offset reason p e = subst (λ (x : Front). IsFrontNear x) e (is_front-near v bytes p)
 
-pub front_near : (v : Version) (bytes : List ℕ) (f : Frame) (size : ℕ) → is_packed v ≡ true → front v bytes ≡ Whole f size → size ≤ 0x100055
+pub front_near : (v : Version) (bytes : List ℕ) (f : Frame) (size : ℕ) → is_packed v ≡ true → front v bytes ≡ Whole f size → size ≤ FRAME_BOUND
 front_near v bytes f size p e = subst (λ (x : Front). IsFrontNear x) e (is_front-near v bytes p)
 
 pub payload_at-whole : (present : Bool) (bytes x rest : List ℕ) → payload_at present bytes ≡ Ok (x, rest) → length x + length rest ≤ length bytes
 payload_at-whole present bytes x rest e =
-    let p : IsRun 0x100000 (length bytes) (Ok (x, rest)) = subst (λ (r : Reading (List ℕ)). IsRun 0x100000 (length bytes) r) e (payload_at-is present bytes) in
+    let p : IsRun MAX_PAYLOAD (length bytes) (Ok (x, rest)) = subst (λ (r : Reading (List ℕ)). IsRun MAX_PAYLOAD (length bytes) r) e (payload_at-is present bytes) in
     p.0
 
 pub carried-left : (c : Code) (bytes : List ℕ) (left : ℕ) (reason : Reason) → carried c bytes ≡ Err (Breaks left reason) → left ≤ length bytes
