@@ -115,8 +115,9 @@ impl<C: FrameCodec> FrameReader<C> {
         }
     }
 
-    /// What stands at the front of the bytes that weren't given, which stay. A frame that isn't whole is looked at
-    /// again from its first byte, which costs its heads: a payload is copied once it is whole.
+    /// What stands at the front of the bytes that weren't given, which stay. This only looks: a refusal that it shows
+    /// isn't kept in mind until `next` answers it. A frame that isn't whole is looked at again from its first byte,
+    /// which costs its heads: a payload is copied once it is whole.
     pub fn front(&self) -> FrameStep
         ensures answer { Decodes result self.now.rest (record { 0 = self.now.at }) (front self.now.version self.now.rest) }
         ensures fits { (frame : Frame) (size : ℕ) → result ≡ FrameStep.Got frame size → fits self.now.version frame ≡ true }
