@@ -4,6 +4,7 @@ use Rattle.std.proofs.Common.{◌≡◌, ℕ, ◌+◌, ◌<◌, ◌≤◌, List,
 use Rattle.std.proofs.lemmas.Bool.{and_parts, lt-ltb, ltb-false}
 use Rattle.std.proofs.lemmas.List.{append-nil}
 use Rattle.std.proofs.lemmas.Str.{is_utf8-from_IsUtf8}
+use Rattle.wire_base.specs.declared.limits.TheConstants.{COUNT_LIMIT, PLAIN_ID_LIMIT}
 use Rattle.wire_base.specs.declared.frame.Version.{Version}
 use Rattle.wire_base.specs.declared.frame.Version.TheVariants as version
 use Rattle.frame_text.specs.Frames.{fits_id}
@@ -53,15 +54,15 @@ name_short v name size items e =
 
 -- the next own offer draws an id of the own party, below 2^32
 
-id_small : (party : Party) (k : ℕ) → k + 1 ≤ most_offers → (0 < own_id party (k + 1)) × (own_id party (k + 1) < 0x100000000)
+id_small : (party : Party) (k : ℕ) → k + 1 ≤ most_offers → (0 < own_id party (k + 1)) × (own_id party (k + 1) < PLAIN_ID_LIMIT)
 id_small Odd k h = (omega arith, omega arith)
 id_small Even k h = (omega arith, omega arith)
 id_small Neither k h = (omega arith, omega arith)
 
-id_fits : (v : Version) (id : ℕ) → 0 < id → id < 0x100000000 → fits_id v id ≡ true
-id_fits version.One id a b = rw (lt-ltb 0 id a, lt-ltb id 0x100000000 b) refl
-id_fits version.Two id a b = rw (lt-ltb 0 id a, lt-ltb id 0x8000000000000000 (omega arith)) refl
-id_fits version.Three id a b = rw (lt-ltb 0 id a, lt-ltb id 0x8000000000000000 (omega arith)) refl
+id_fits : (v : Version) (id : ℕ) → 0 < id → id < PLAIN_ID_LIMIT → fits_id v id ≡ true
+id_fits version.One id a b = rw (lt-ltb 0 id a, lt-ltb id PLAIN_ID_LIMIT b) refl
+id_fits version.Two id a b = rw (lt-ltb 0 id a, lt-ltb id COUNT_LIMIT (omega arith)) refl
+id_fits version.Three id a b = rw (lt-ltb 0 id a, lt-ltb id COUNT_LIMIT (omega arith)) refl
 
 next_in_range : (w : SideTerms) (items : List Item) → AreInRange w items → is_ready w.version items ≡ true → own_offers items + 1 ≤ most_offers → IsKeyInRange w (next_key items)
 next_in_range w items s ready more =

@@ -4,6 +4,7 @@ use Rattle.std.specs.List.{list_any}
 use Rattle.std.specs.Str.{bytes_eq}
 use Rattle.std.proofs.Common.{◌≡◌, ℕ, ◌<◌, List, [], ◌∷◌, ◌++◌, length, take, drop, map, refl, sym, ◌∙◌, ap, subst, inl, inr, arith, length-take}
 use Rattle.std.proofs.lemmas.Bool.{cases_Bool}
+use Rattle.wire_base.specs.declared.limits.TheConstants.{COUNT_LIMIT}
 use Rattle.wire_base.specs.declared.frame.Version.{Version}
 use Rattle.wire_base.specs.declared.frame.Version.TheVariants as version
 use Rattle.wire_base.specs.declared.frame.Origin.TheVariants as origin
@@ -74,7 +75,7 @@ if_none_writable : (w : SideTerms) (b : Bool) (fs : List ChannelFrame) → (b �
 if_none_writable w true fs s = tt
 if_none_writable w false fs s = s refl
 
-acknowledgement_writable : (w : SideTerms) (c : ChannelKey) (count : ℕ) (items : List Item) → IsKeyInRange w c → count < 0x8000000000000000 → AreWritable w (acknowledgement w.version c count items)
+acknowledgement_writable : (w : SideTerms) (c : ChannelKey) (count : ℕ) (items : List Item) → IsKeyInRange w c → count < COUNT_LIMIT → AreWritable w (acknowledgement w.version c count items)
 acknowledgement_writable w c count items s small =
     if_none_writable w (is_one w.version) _ (λ two. if_none_writable w (count == 0) _ (λ some.
     if_writable w (is_running items && is_live w.version c items) (frame_on c (ContentProcessed count)) (record { fits = fits_processed w.version c count s.id two small; key = s })))

@@ -1,6 +1,7 @@
 -- What the frames of an item say is in its range, and tells its channel.
 use Rattle.std.specs.Prelude.{◌≡◌, ◌<◌, ◌≤◌, ℕ, min, List, [], ◌∷◌, length, true, false}
 use Rattle.std.specs.Str.{is_utf8, bytes_eq}
+use Rattle.wire_base.specs.declared.limits.TheConstants.{COUNT_LIMIT}
 use Rattle.frame_text.specs.Frames.{fits_id}
 use Rattle.mux_items.specs.declared.channel.ChannelKey.{ChannelKey}
 use Rattle.mux_items.specs.declared.party.Party.{Party}
@@ -18,7 +19,7 @@ pub record IsKeyInRange (w : SideTerms) (key : ChannelKey) : Type 0 where
 
 -- a window or a count is 0 to 2^63 - 1
 abbrev pub IsNumberInRange : ℕ → Type 0
-IsNumberInRange n = n < 0x8000000000000000
+IsNumberInRange n = n < COUNT_LIMIT
 
 -- a name is UTF-8, and not too long
 pub record IsNameInRange (name : List ℕ) : Type 0 where
