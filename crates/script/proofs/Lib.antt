@@ -7,6 +7,7 @@ pub mod Counts
 pub mod Scripts
 pub mod NonceLines
 pub mod HeadLines
+pub mod HeadRules
 pub mod Heads
 pub mod ScriptLaws
 pub mod AnswersOfRead

@@ -1,11 +1,12 @@
 -- A text and its lines.
+use Rattle.std.specs.Prelude.{if◌then◌else◌}
 use Rattle.std.proofs.Common.{◌≡◌, ℕ, Bool, true, false, cond, eqb, eqb-true, not, List, [], ◌∷◌, ◌++◌, map, append_assoc, refl, sym, ap, ◌∙◌, inl, inr}
 use Rattle.std.specs.List.{list_all, flat_map}
 use Rattle.std.specs.Str.{is_utf8}
 use Rattle.std.proofs.lemmas.Bool.{and_parts}
 use Rattle.script.specs.Spelling.{ended}
 use Rattle.text_words.specs.Written.{stands_in_line, is_line_text}
-use Rattle.script.specs.Lines.{TextLine, lines_of, onto_line, line_bytes}
+use Rattle.script.specs.Lines.{TextLine, lines_of, onto_line, whole_line}
 use Rattle.text_words.proofs.ByteTests.{tested}
 
 not_false : (b : Bool) → not b ≡ true → b ≡ false
@@ -19,6 +20,10 @@ lines_of-front (b ∷ text) rest h =
     let p = and_parts (stands_in_line b) (list_all stands_in_line text) h in
     rw (not_false (eqb b 10) p.0, lines_of-front text rest p.1) refl
 
+-- the bytes of a line
+abbrev line_bytes : TextLine → List ℕ
+line_bytes line = if line.has_end then line.text ++ 10 ∷ [] else line.text
+
 onto_bytes : (b : ℕ) (lines : List TextLine) → flat_map line_bytes (onto_line b lines) ≡ b ∷ flat_map line_bytes lines
 onto_bytes b [] = refl
 onto_bytes b (line ∷ lines) = by_end line.has_end line.text lines
@@ -28,7 +33,7 @@ onto_bytes b (line ∷ lines) = by_end line.has_end line.text lines
     by_end false text lines = refl
 
 -- a text is the bytes of its lines
-pub flat_map-lines_of : (bytes : List ℕ) → flat_map line_bytes (lines_of bytes) ≡ bytes
+flat_map-lines_of : (bytes : List ℕ) → flat_map line_bytes (lines_of bytes) ≡ bytes
 flat_map-lines_of [] = refl
 flat_map-lines_of (b ∷ bytes) = elim (tested (eqb b 10)) [
   | inl e ↦ rw (e, eqb-true b 10 e) (ap (λ bs. 10 ∷ bs) (flat_map-lines_of bytes))
@@ -50,10 +55,6 @@ lines_of-lack (b ∷ bytes) = elim (tested (eqb b 10)) [
   | inr e ↦ rw e (onto_lacks b (lines_of bytes) e (lines_of-lack bytes))
 ]
 
--- a line that has an end
-abbrev pub whole_line : List ℕ → TextLine
-whole_line text = record { text = text; has_end = true }
-
 -- lines in front of a text
 pub lines_of-lines : (texts : List (List ℕ)) (rest : List ℕ) → list_all is_line_text texts ≡ true → lines_of (flat_map ended texts ++ rest) ≡ map whole_line texts ++ lines_of rest
 lines_of-lines [] rest h = refl
@@ -63,8 +64,10 @@ lines_of-lines (text ∷ texts) rest h =
     ap lines_of (append_assoc (ended text) (flat_map ended texts) rest)
     ∙ (lines_of-front text (flat_map ended texts ++ rest) l.1 ∙ ap (λ lines. whole_line text ∷ lines) (lines_of-lines texts rest p.1))
 
+flat_map-whole : (texts : List (List ℕ)) → flat_map line_bytes (map whole_line texts) ≡ flat_map ended texts
+flat_map-whole [] = refl
+flat_map-whole (text ∷ texts) = ap (λ bytes. ended text ++ bytes) (flat_map-whole texts)
+
 -- and the text that they are
-pub flat_map-lines : (texts : List (List ℕ)) (lines : List TextLine) → flat_map line_bytes (map whole_line texts ++ lines) ≡ flat_map ended texts ++ flat_map line_bytes lines
-flat_map-lines [] lines = refl
-flat_map-lines (text ∷ texts) lines =
-    ap (λ bytes. ended text ++ bytes) (flat_map-lines texts lines) ∙ sym (append_assoc (ended text) (flat_map ended texts) (flat_map line_bytes lines))
+pub text_of-lines : (texts : List (List ℕ)) (bytes : List ℕ) → lines_of bytes ≡ map whole_line texts → bytes ≡ flat_map ended texts
+text_of-lines texts bytes is = sym (flat_map-lines_of bytes) ∙ (ap (flat_map line_bytes) is ∙ flat_map-whole texts)

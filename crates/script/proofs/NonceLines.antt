@@ -1,5 +1,5 @@
 -- The line of a nonce, written and read.
-use Rattle.std.proofs.Common.{◌≡◌, ℕ, ◌==◌, Bool, true, false, cond, ◌&&◌, List, [], ◌∷◌, length, refl, sym, ap, ◌∙◌, Option, Some, None, Ok, codes}
+use Rattle.std.proofs.Common.{◌≡◌, ℕ, ◌==◌, Bool, true, false, cond, ◌&&◌, List, [], ◌∷◌, length, refl, sym, ap, ◌∙◌, Option, Some, None, Ok, Err, codes}
 use Rattle.std.specs.Option.{ok_or}
 use Rattle.std.specs.List.{list_all, join_with_byte}
 use Rattle.std.specs.Str.{bytes_eq}
@@ -12,6 +12,7 @@ use Rattle.text_words.proofs.ByteTests.{bytes_eq-same, same_from_bytes_eq}
 use Rattle.text_words.proofs.Joined.{joined-words}
 use Rattle.text_words.proofs.Texts.{visible_word, text_side, text_bytes}
 use Rattle.text_words.proofs.Values.{nonce_in-word, nonce_in-some}
+use Rattle.script.specs.declared.reason.ScriptReason.{ScriptReason}
 use Rattle.script.specs.declared.reason.ScriptReason.TheVariants as reason
 use Rattle.script.specs.Spelling.{nonce_words, nonce_line}
 use Rattle.script.specs.Steps.{nonce_of, nonce_line_in}
@@ -61,3 +62,13 @@ unfolding nonce_line_in
 nonce_line_in-ok side text nonce h =
     let read = nonce_of-some side (words_of text) nonce (good (nonce_of side (words_of text)) nonce h) in
     (sym (join_with_byte-slice_split 32 text) ∙ ap (join_with_byte 32) read.0, read.1)
+
+bad : (o : Option (List ℕ)) (fault : ScriptReason) → ok_or o reason.BadHead ≡ Err fault → fault ≡ reason.BadHead
+bad (Some x) fault h = cc h
+bad None fault h =
+    let same : reason.BadHead ≡ fault = cc in
+    sym same
+
+pub nonce_line_in-err : (side : Side) (text : List ℕ) (fault : ScriptReason) → nonce_line_in side text ≡ Err fault → fault ≡ reason.BadHead
+unfolding nonce_line_in
+nonce_line_in-err side text fault h = bad (nonce_of side (words_of text)) fault h

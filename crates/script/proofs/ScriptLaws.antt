@@ -1,9 +1,9 @@
 -- Scripts and their texts.
-use Rattle.std.proofs.Common.{◌≡◌, ◌≢◌, ℕ, ◌+◌, ◌⊎◌, inl, inr, true, List, [], ◌∷◌, ◌++◌, length, map, refl, Err, sym, ap, ap₂, subst, ◌∙◌, arith, append_assoc}
+use Rattle.std.proofs.Common.{◌≡◌, ◌≢◌, ℕ, ◌+◌, ◌≤◌, ◌⊎◌, inl, inr, true, List, [], ◌∷◌, ◌++◌, length, map, refl, Err, sym, ap, ap₂, subst, ◌∙◌, arith, append_assoc}
 use Rattle.std.specs.Prelude.{◌↔◌}
-use Rattle.std.specs.List.{list_all, flat_map, join_with_byte}
+use Rattle.std.specs.List.{list_all, join_with_byte}
 use Rattle.std.proofs.lemmas.Bool.{and_parts}
-use Rattle.std.proofs.lemmas.List.{append-nil}
+use Rattle.std.proofs.lemmas.List.{append-nil, length-map, map-append}
 use Rattle.std.proofs.lemmas.List.Folds.{list_all-append}
 use Rattle.std.proofs.lemmas.List.Splits.{join_with_byte-slice_split}
 use Rattle.mux_run.specs.Run.{Terms}
@@ -12,35 +12,52 @@ use Rattle.script.specs.declared.reason.ScriptReason.{ScriptReason}
 use Rattle.script.specs.declared.reason.ScriptReason.TheVariants as reason
 use Rattle.text_words.specs.Written.{is_line_text}
 use Rattle.text_words.specs.Reading.{words_of}
+use Rattle.text_words.proofs.ByteTests.{and_true}
 use Rattle.text_words.proofs.Joined.{line-words}
-use Rattle.script.specs.Spelling.{StepLine, AreTerms, AreScripted, is_spellable, line_text, line_words, step_lines, steps_of, filled_in, script_text, head_lines, head_text}
-use Rattle.script.specs.Lines.{TextLine, lines_of, line_bytes}
+use Rattle.script.specs.Spelling.{StepLine, AreTerms, AreScripted, is_spellable, step_of, line_text, line_words, steps_of, filled_in, script_lines, script_text, head_lines, head_text}
+use Rattle.script.specs.Lines.{TextLine, lines_of, whole_line}
 use Rattle.script.specs.Steps.{step_in, begins_step}
-use Rattle.script.specs.Found.{reads, breaks, steps_from, script_from, script_in, BreaksHead, BreaksBehind, IsScriptOf}
-use Rattle.script.proofs.LineTexts.{lacks_feed, lines_of-lack, flat_map-lines_of, whole_line, lines_of-lines, flat_map-lines}
-use Rattle.script.proofs.StepLines.{line_text-words}
+use Rattle.script.specs.Rules.{IsHeadRefused}
+use Rattle.script.specs.Found.{reads, breaks, steps_from, script_from, script_in, BreaksBehind, IsScriptOf}
+use Rattle.script.proofs.LineTexts.{lacks_feed, lines_of-lack, lines_of-lines, text_of-lines}
+use Rattle.script.proofs.StepLines.{line_text-text, line_text-words}
 use Rattle.script.proofs.StepWords.{step_in-words, step_in-ok, bad_word-begins, bad_or_step}
 use Rattle.script.proofs.HeadLines.{head_lines-texts}
-use Rattle.script.proofs.Heads.{head_goes_on, IsHeadless, head_cases}
-use Rattle.script.proofs.Scripts.{from_lines-lines, from_lines-reads, from_lines-breaks}
+use Rattle.script.proofs.HeadRules.{refused_within, refused_once, refused_headless}
+use Rattle.script.proofs.Heads.{head_goes_on, head_cases}
+use Rattle.script.proofs.Scripts.{whole_lines, from_lines-lines, from_lines-reads, from_lines-breaks}
 
 none_scripted : AreScripted []
 none_scripted = record { spellable = refl; few = omega arith; within = omega arith }
 
--- the lines of a text that begins with a head
-headed_lines : (terms : Terms) (rest : List ℕ) → AreTerms terms → lines_of (head_text terms ++ rest) ≡ map whole_line (head_lines terms) ++ lines_of rest
-headed_lines terms rest h = lines_of-lines (head_lines terms) rest (head_lines-texts terms h)
+step_texts : (lines : List StepLine) → list_all is_spellable lines ≡ true → list_all is_line_text (map line_text lines) ≡ true
+step_texts [] h = refl
+step_texts (line ∷ lines) h =
+    let p = and_parts (is_spellable line) (list_all is_spellable lines) h in
+    and_true (is_line_text (line_text line)) (list_all is_line_text (map line_text lines)) (line_text-text line p.0) (step_texts lines p.1)
+
+script_lines-texts : (terms : Terms) (lines : List StepLine) → AreTerms terms → list_all is_spellable lines ≡ true → list_all is_line_text (script_lines terms lines) ≡ true
+script_lines-texts terms lines h spelled = rw (list_all-append is_line_text (head_lines terms) (map line_text lines), head_lines-texts terms h, step_texts lines spelled) refl
+
+-- the lines of steps behind those of a head
+behind_head : (terms : Terms) (lines : List StepLine) (rest : List TextLine) → map whole_line (script_lines terms lines) ++ rest ≡ map whole_line (head_lines terms) ++ (whole_lines lines ++ rest)
+behind_head terms lines rest = ap (λ ls. ls ++ rest) (map-append whole_line (head_lines terms) (map line_text lines)) ∙ append_assoc (map whole_line (head_lines terms)) (whole_lines lines) rest
+
+-- behind the lines of a script the next line decides
+lines_go_on : (terms : Terms) (lines : List StepLine) (rest : List TextLine) → AreTerms terms → AreScripted lines
+    → script_from (map whole_line (script_lines terms lines) ++ rest) ≡ steps_from terms (steps_of lines) (filled_in lines) (length lines + length (head_lines terms) + 1) rest
+lines_go_on terms lines rest h scripted =
+    let first = length (head_lines terms) + 1 in
+    let place : first + length lines ≡ length lines + length (head_lines terms) + 1 = omega arith in
+    ap script_from (behind_head terms lines rest)
+    ∙ (head_goes_on terms (whole_lines lines ++ rest) h
+    ∙ (from_lines-lines terms [] lines first rest scripted ∙ ap (λ number. steps_from terms (steps_of lines) (filled_in lines) number rest) place))
 
 -- behind the text of a script the next line decides
 pub goes_on : (terms : Terms) (lines : List StepLine) (rest : List ℕ) → AreTerms terms → AreScripted lines
     → script_in (script_text terms lines ++ rest) ≡ steps_from terms (steps_of lines) (filled_in lines) (length lines + length (head_lines terms) + 1) (lines_of rest)
 goes_on terms lines rest h scripted =
-    let first = length (head_lines terms) + 1 in
-    let place : first + length lines ≡ length lines + length (head_lines terms) + 1 = omega arith in
-    ap script_in (append_assoc (head_text terms) (step_lines lines) rest)
-    ∙ (ap script_from (headed_lines terms (step_lines lines ++ rest) h)
-    ∙ (head_goes_on terms (lines_of (step_lines lines ++ rest)) h
-    ∙ (from_lines-lines terms [] lines first rest scripted ∙ ap (λ number. steps_from terms (steps_of lines) (filled_in lines) number (lines_of rest)) place)))
+    ap script_from (lines_of-lines (script_lines terms lines) rest (script_lines-texts terms lines h scripted.spellable)) ∙ lines_go_on terms lines (lines_of rest) h scripted
 
 -- what is written is read
 pub written : (terms : Terms) (lines : List StepLine) → AreTerms terms → AreScripted lines → script_in (script_text terms lines) ≡ reads terms (steps_of lines)
@@ -53,65 +70,79 @@ lacks_behind texts rest h =
 no_reads : (terms : Terms) (steps : List Step) (number : ℕ) (fault : ScriptReason) → breaks number fault ≢ reads terms steps
 no_reads terms steps number fault h = cc h
 
-script_from-reads : (rest : List TextLine) (terms : Terms) (steps : List Step) → list_all lacks_feed rest ≡ true → script_from rest ≡ reads terms steps → IsScriptOf (flat_map line_bytes rest) terms steps
-script_from-reads rest terms steps lacks h = elim (head_cases rest) [
+-- what is read is written so
+pub is_read : (bytes : List ℕ) (terms : Terms) (steps : List Step) → script_in bytes ≡ reads terms steps → IsScriptOf bytes terms steps
+is_read bytes terms steps h = elim (head_cases (lines_of bytes)) [
   | inr none ↦ absurd (no_reads terms steps none.number none.fault (sym none.is ∙ h))
   | inl head ↦
       let all = sym (ap script_from head.is ∙ head_goes_on head.terms head.rest head.terms_are) ∙ h in
-      let read = from_lines-reads head.terms [] (length (head_lines head.terms) + 1) head.rest terms steps none_scripted (lacks_behind (head_lines head.terms) head.rest (rw head.is at lacks)) all in (
-        read.all,
+      let lacks = lacks_behind (head_lines head.terms) head.rest (rw head.is at (lines_of-lack bytes)) in
+      let read = from_lines-reads head.terms [] (length (head_lines head.terms) + 1) head.rest terms steps none_scripted lacks all in
+      let lines : lines_of bytes ≡ map whole_line (script_lines head.terms read.more) =
+      head.is ∙ (ap (λ rest. map whole_line (head_lines head.terms) ++ rest) read.is ∙ sym (map-append whole_line (head_lines head.terms) (map line_text read.more))) in (
+        read.more,
         read.steps_are,
         record {
           terms_are = subst AreTerms read.terms_are head.terms_are;
           scripted = read.scripted;
-          text = ap (flat_map line_bytes) head.is ∙ (flat_map-lines (head_lines head.terms) head.rest ∙ ap₂ (λ t bytes. head_text t ++ bytes) read.terms_are read.text);
+          text = text_of-lines (script_lines head.terms read.more) bytes lines ∙ ap (λ t. script_text t read.more) read.terms_are;
         },
       )
 ]
 
--- what is read is written so
-pub is_read : (bytes : List ℕ) (terms : Terms) (steps : List Step) → script_in bytes ≡ reads terms steps → IsScriptOf bytes terms steps
-is_read bytes terms steps h =
-    let P : List ℕ → Type 0 = λ x. IsScriptOf x terms steps in
-    subst P (flat_map-lines_of bytes) (script_from-reads (lines_of bytes) terms steps (lines_of-lack bytes) h)
-
-broken_behind : (terms : Terms) (rest : List TextLine) (number : ℕ) (fault : ScriptReason) → AreTerms terms → list_all lacks_feed rest ≡ true
-    → steps_from terms [] 0 (length (head_lines terms) + 1) rest ≡ breaks number fault → BreaksBehind (head_text terms ++ flat_map line_bytes rest) number fault
-broken_behind terms rest number fault h lacks e =
-    let broken = from_lines-breaks terms [] (length (head_lines terms) + 1) rest number fault none_scripted lacks e in
-    let place = broken.place in
-    record {
-      terms = terms;
-      before = broken.before;
-      line = broken.line;
-      later = broken.later;
-      terms_are = h;
-      scripted = broken.scripted;
-      text = ap (λ bytes. head_text terms ++ bytes) broken.text ∙ sym (append_assoc (head_text terms) (step_lines broken.before) (flat_map line_bytes (broken.line ∷ broken.later)));
-      place = omega arith;
-      broken = broken.broken;
-    }
-
-same_break : (n m : ℕ) (fault other : ScriptReason) → breaks n fault ≡ breaks m other → n ≡ m
-same_break n m fault other h = cc
-
-no_head : (bytes : List ℕ) → IsHeadless (lines_of bytes) → (terms : Terms) (rest : List ℕ) → AreTerms terms → bytes ≢ head_text terms ++ rest
-no_head bytes none terms rest h same = none.none terms (lines_of rest) h (ap lines_of same ∙ headed_lines terms rest h)
-
 -- the first broken line is one of a head's, or what stands before it is a script
-pub is_broken : (bytes : List ℕ) (number : ℕ) (fault : ScriptReason) → script_in bytes ≡ breaks number fault → BreaksHead bytes number ⊎ BreaksBehind bytes number fault
-is_broken bytes number fault h = elim (head_cases (lines_of bytes)) [
+pub is_refused : (bytes : List ℕ) (number : ℕ) (why : ScriptReason) → script_in bytes ≡ breaks number why → IsHeadRefused (lines_of bytes) number why ⊎ BreaksBehind bytes number why
+is_refused bytes number why h = elim (head_cases (lines_of bytes)) [
   | inr none ↦
-      let same = same_break none.number number none.fault fault (sym none.is ∙ h) in
-      let place = none.place in
-      inl (record { no_head = no_head bytes none; place = omega arith })
+      let same : breaks none.number none.fault ≡ breaks number why = sym none.is ∙ h in
+      let line : none.number ≡ number = cc in
+      let reason : none.fault ≡ why = cc in
+      let P : ℕ → ScriptReason → Type 0 = λ n r. IsHeadRefused (lines_of bytes) n r in
+      inl (subst (P number) reason (subst (λ n. P n none.fault) line none.refused))
   | inl head ↦
-      let P : List ℕ → Type 0 = λ x. BreaksBehind x number fault in
-      let lacks = lacks_behind (head_lines head.terms) head.rest (rw head.is at (lines_of-lack bytes)) in
       let all = sym (ap script_from head.is ∙ head_goes_on head.terms head.rest head.terms_are) ∙ h in
-      let text : head_text head.terms ++ flat_map line_bytes head.rest ≡ bytes = sym (flat_map-lines (head_lines head.terms) head.rest) ∙ (ap (flat_map line_bytes) (sym head.is) ∙ flat_map-lines_of bytes) in
-      inr (subst P text (broken_behind head.terms head.rest number fault head.terms_are lacks all))
+      let lacks = lacks_behind (head_lines head.terms) head.rest (rw head.is at (lines_of-lack bytes)) in
+      let broken = from_lines-breaks head.terms [] (length (head_lines head.terms) + 1) head.rest number why none_scripted lacks all in
+      let place = broken.place in
+      inr (record {
+        terms = head.terms;
+        before = broken.more;
+        line = broken.line;
+        later = broken.later;
+        terms_are = head.terms_are;
+        scripted = broken.scripted;
+        is = head.is ∙ (ap (λ rest. map whole_line (head_lines head.terms) ++ rest) broken.is ∙ sym (behind_head head.terms broken.more (broken.line ∷ broken.later)));
+        place = omega arith;
+        broken = broken.broken;
+      })
 ]
+
+refuses_head : (lines : List TextLine) (number : ℕ) (why : ScriptReason) → IsHeadRefused lines number why → script_from lines ≡ breaks number why
+refuses_head lines number why h = elim (head_cases lines) [
+  | inl head ↦ absurd (refused_headless lines number why h head.terms head.rest head.terms_are head.is)
+  | inr none ↦ let same = refused_once lines none.number number none.fault why none.refused h in none.is ∙ ap₂ breaks same.0 same.1
+]
+
+refuses_behind : (bytes : List ℕ) (number : ℕ) (why : ScriptReason) → BreaksBehind bytes number why → script_in bytes ≡ breaks number why
+refuses_behind bytes number why h =
+    let first = length h.before + length (head_lines h.terms) + 1 in
+    let counted = length-map h.before step_of in
+    ap script_from h.is
+    ∙ (lines_go_on h.terms h.before (h.line ∷ h.later) h.terms_are h.scripted
+    ∙ rw (counted, h.broken) (ap (λ n. breaks n why) (sym h.place)))
+
+-- and such a line is refused
+pub refuses : (bytes : List ℕ) (number : ℕ) (why : ScriptReason) → IsHeadRefused (lines_of bytes) number why ⊎ BreaksBehind bytes number why → script_in bytes ≡ breaks number why
+refuses bytes number why (inl head) = refuses_head (lines_of bytes) number why head
+refuses bytes number why (inr behind) = refuses_behind bytes number why behind
+
+-- a text that is refused in its head begins with none
+pub headless : (bytes : List ℕ) (number : ℕ) (why : ScriptReason) → IsHeadRefused (lines_of bytes) number why → (number ≤ 4) × ((terms : Terms) (rest : List ℕ) → AreTerms terms → bytes ≢ head_text terms ++ rest)
+headless bytes number why h = (
+  refused_within (lines_of bytes) number why h,
+  λ terms rest are same.
+      refused_headless (lines_of bytes) number why h terms (lines_of rest) are (ap lines_of same ∙ lines_of-lines (head_lines terms) rest (head_lines-texts terms are)),
+)
 
 joined : (text : List ℕ) (line : StepLine) → words_of text ≡ line_words line → line_text line ≡ text
 joined text line e = sym (sym (join_with_byte-slice_split 32 text) ∙ ap (join_with_byte 32) e)

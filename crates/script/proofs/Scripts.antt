@@ -1,22 +1,19 @@
 -- The lines of steps, written and read.
-use Rattle.std.proofs.Common.{◌≡◌, ℕ, suc, ◌+◌, true, List, [], ◌∷◌, ◌++◌, length, length-append, refl, Result, Ok, Err, sym, ap, ap₂, ◌∙◌, arith, append_assoc, add-zero}
-use Rattle.std.specs.List.{list_all, flat_map}
+use Rattle.std.proofs.Common.{◌≡◌, ℕ, suc, ◌+◌, true, List, [], ◌∷◌, ◌++◌, length, map, refl, Result, Ok, Err, sym, ap, ap₂, subst, ◌∙◌, arith, append_assoc, add-zero}
+use Rattle.std.specs.List.{list_all}
 use Rattle.std.proofs.lemmas.Bool.{and_parts}
 use Rattle.std.proofs.lemmas.List.{append-nil, length-map, map-append}
-use Rattle.std.proofs.lemmas.List.Concat.{flat_map-append}
 use Rattle.mux_run.specs.declared.steps.Step.{Step}
 use Rattle.mux_run.specs.Run.{Terms}
-use Rattle.text_words.specs.Written.{stands_in_line}
-use Rattle.std.specs.Str.{is_utf8}
 use Rattle.script.specs.declared.line_step.LineStep.{LineStep}
 use Rattle.script.specs.declared.reason.ScriptReason.{ScriptReason}
-use Rattle.script.specs.Lines.{TextLine, lines_of, line_bytes}
-use Rattle.script.specs.Spelling.{StepLine, AreScripted, line_text, step_lines, ended, step_of, steps_of, filled_by, filled_in}
+use Rattle.script.specs.Lines.{TextLine, whole_line}
+use Rattle.script.specs.Spelling.{StepLine, AreScripted, line_text, step_of, steps_of, filled_by, filled_in}
 use Rattle.script.specs.Steps.{step_after}
 use Rattle.script.specs.Found.{Found, reads, breaks, behind, steps_from}
 use Rattle.script.proofs.Counts.{filled_in-append, MayStand, one_more, next_stands}
-use Rattle.script.proofs.LineTexts.{whole_line, lacks_feed, lines_of-front}
-use Rattle.script.proofs.StepLines.{line_text-text, step_after-line, IsStepLine, step_after-ok}
+use Rattle.script.proofs.LineTexts.{lacks_feed}
+use Rattle.script.proofs.StepLines.{step_after-line, IsStepLine, step_after-ok}
 
 -- the lines of a text, from this number on, behind these lines
 abbrev pub from_lines : Terms → List StepLine → ℕ → List TextLine → Found
@@ -45,38 +42,35 @@ from_first : (terms : Terms) (lines : List StepLine) (number : ℕ) (first : Tex
     → from_lines terms lines number (first ∷ rest) ≡ behind number (after_lines lines first) (λ l. steps_from terms (steps_of lines ++ l.step ∷ []) (filled_in lines + l.filled) (number + 1) rest)
 from_first terms lines number first rest = rw (length-steps_of lines) refl
 
+line_is : (line : TextLine) {text : List ℕ} → line.text ≡ text → line.has_end ≡ true → line ≡ whole_line text
+line_is line same end = ap₂ (λ t e. record { text = t; has_end = e }) same end
+
 regroup : (lines more : List StepLine) (line : StepLine) → (lines ++ line ∷ []) ++ more ≡ lines ++ line ∷ more
 regroup lines more line = append_assoc lines (line ∷ []) more
 
+-- the lines of steps
+abbrev pub whole_lines : List StepLine → List TextLine
+whole_lines lines = map whole_line (map line_text lines)
+
 -- behind the lines of steps the lines after them decide
-pub from_lines-lines : (terms : Terms) (lines more : List StepLine) (number : ℕ) (rest : List ℕ) → AreScripted (lines ++ more)
-    → from_lines terms lines number (lines_of (step_lines more ++ rest)) ≡ from_lines terms (lines ++ more) (number + length more) (lines_of rest)
+pub from_lines-lines : (terms : Terms) (lines more : List StepLine) (number : ℕ) (rest : List TextLine) → AreScripted (lines ++ more)
+    → from_lines terms lines number (whole_lines more ++ rest) ≡ from_lines terms (lines ++ more) (number + length more) rest
 from_lines-lines terms lines [] number rest h = rw (append-nil lines, add-zero) refl
 from_lines-lines terms lines (line ∷ more) number rest h =
     let stands = next_stands lines more line h in
-    let feed = and_parts (is_utf8 (line_text line)) (list_all stands_in_line (line_text line)) (line_text-text line stands.spellable) in
-    let text : lines_of (step_lines (line ∷ more) ++ rest) ≡ whole_line (line_text line) ∷ lines_of (step_lines more ++ rest) =
-    ap lines_of (append_assoc (ended (line_text line)) (step_lines more) rest) ∙ lines_of-front (line_text line) (step_lines more ++ rest) feed.1 in
     let first = step_after-line (length lines) (filled_in lines) line stands.spellable stands.few stands.within in
     let scripted : AreScripted ((lines ++ line ∷ []) ++ more) = rw (regroup lines more line) h in
     let ih = from_lines-lines terms (lines ++ line ∷ []) more (number + 1) rest scripted in
     let place : number + 1 + length more ≡ number + suc (length more) = omega arith in
-    ap (from_lines terms lines number) text
-    ∙ (from_first terms lines number (whole_line (line_text line)) (lines_of (step_lines more ++ rest))
-    ∙ (ap (λ r. behind number r (λ l. steps_from terms (steps_of lines ++ l.step ∷ []) (filled_in lines + l.filled) (number + 1) (lines_of (step_lines more ++ rest)))) first
-    ∙ (from_line terms lines line (number + 1) (lines_of (step_lines more ++ rest))
-    ∙ (ih ∙ rw (regroup lines more line, place) refl))))
+    from_first terms lines number (whole_line (line_text line)) (whole_lines more ++ rest)
+    ∙ (ap (λ r. behind number r (λ l. steps_from terms (steps_of lines ++ l.step ∷ []) (filled_in lines + l.filled) (number + 1) (whole_lines more ++ rest))) first
+    ∙ (from_line terms lines line (number + 1) (whole_lines more ++ rest)
+    ∙ (ih ∙ rw (regroup lines more line, place) refl)))
 
 behind_reads : {X : Type 0} (number : ℕ) (r : Result X ScriptReason) (f : X → Found) (terms : Terms) (steps : List Step) → behind number r f ≡ reads terms steps
     → (x : X) × (r ≡ Ok x) × (f x ≡ reads terms steps)
 behind_reads number (Ok x) f terms steps h = (x, refl, h)
 behind_reads number (Err e) f terms steps h = cc h
-
-line_moved : (lines : List StepLine) (spelled : StepLine) (line : TextLine) (rest : List ℕ) → line.has_end ≡ true → line.text ≡ line_text spelled
-    → step_lines lines ++ (line_bytes line ++ rest) ≡ step_lines (lines ++ spelled ∷ []) ++ rest
-line_moved lines spelled line rest e t =
-    let bytes : line_bytes line ≡ ended (line_text spelled) = rw (e, t) refl in
-    rw (bytes, flat_map-append (λ (x : StepLine). ended (line_text x)) lines (spelled ∷ []), append-nil (ended (line_text spelled)), append_assoc (step_lines lines) (ended (line_text spelled)) rest) refl
 
 -- what a line that was read adds to those before it
 may_stand : (lines : List StepLine) (line : TextLine) (l : LineStep) → (d : IsStepLine (length lines) (filled_in lines) line l) → MayStand lines d.spelled
@@ -91,18 +85,18 @@ moved_on : (terms : Terms) (lines : List StepLine) (line : TextLine) (l : LineSt
 moved_on terms lines line l number rest d =
     ap (λ (x : LineStep). steps_from terms (steps_of lines ++ x.step ∷ []) (filled_in lines + x.filled) number rest) (sym d.means) ∙ from_line terms lines d.spelled number rest
 
--- lines that were read, behind others
+-- the lines of steps that were read, behind others
 pub record HasRead (given terms : Terms) (lines : List StepLine) (steps : List Step) (rest : List TextLine) : Type 0 where
   pub terms_are : given ≡ terms
-  pub all : List StepLine
-  pub steps_are : steps ≡ steps_of all
-  pub scripted : AreScripted all
-  pub text : step_lines lines ++ flat_map line_bytes rest ≡ step_lines all
+  pub more : List StepLine
+  pub steps_are : steps ≡ steps_of (lines ++ more)
+  pub scripted : AreScripted (lines ++ more)
+  pub is : rest ≡ whole_lines more
 
 pub from_lines-reads : (given : Terms) (lines : List StepLine) (number : ℕ) (rest : List TextLine) (terms : Terms) (steps : List Step) → AreScripted lines → list_all lacks_feed rest ≡ true
     → from_lines given lines number rest ≡ reads terms steps → HasRead given terms lines steps rest
 from_lines-reads given lines number [] terms steps h lacks e =
-    record { terms_are = cc; all = lines; steps_are = cc; scripted = h; text = append-nil (step_lines lines) }
+    record { terms_are = cc; more = []; steps_are = rw (append-nil lines) cc; scripted = rw (append-nil lines) h; is = refl }
 from_lines-reads given lines number (line ∷ rest) terms steps h lacks e =
     let p = and_parts (lacks_feed line) (list_all lacks_feed rest) lacks in
     let b = behind_reads number (after_lines lines line) _ terms steps (sym (from_first given lines number line rest) ∙ e) in
@@ -111,35 +105,34 @@ from_lines-reads given lines number (line ∷ rest) terms steps h lacks e =
     (sym (moved_on given lines line b.0 (number + 1) rest d) ∙ b.2) in
     record {
       terms_are = ih.terms_are;
-      all = ih.all;
-      steps_are = ih.steps_are;
-      scripted = ih.scripted;
-      text = line_moved lines d.spelled line (flat_map line_bytes rest) d.end d.text ∙ ih.text;
+      more = d.spelled ∷ ih.more;
+      steps_are = ih.steps_are ∙ ap steps_of (regroup lines ih.more d.spelled);
+      scripted = subst AreScripted (regroup lines ih.more d.spelled) ih.scripted;
+      is = ap₂ (λ l ls. l ∷ ls) (line_is line d.text d.end) ih.is;
     }
 
 -- the line behind these lines is broken
 pub record IsBroken (lines : List StepLine) (number : ℕ) (rest : List TextLine) (at : ℕ) (fault : ScriptReason) : Type 0 where
-  pub before : List StepLine
+  pub more : List StepLine
   pub line : TextLine
   pub later : List TextLine
-  pub scripted : AreScripted before
-  pub text : step_lines lines ++ flat_map line_bytes rest ≡ step_lines before ++ flat_map line_bytes (line ∷ later)
-  pub place : at + length lines ≡ number + length before
-  pub broken : after_lines before line ≡ Err fault
+  pub scripted : AreScripted (lines ++ more)
+  pub is : rest ≡ whole_lines more ++ line ∷ later
+  pub place : at ≡ number + length more
+  pub broken : after_lines (lines ++ more) line ≡ Err fault
 
-broken_later : (lines : List StepLine) (spelled : StepLine) (number : ℕ) (line : TextLine) (rest : List TextLine) (at : ℕ) (fault : ScriptReason) → line.has_end ≡ true → line.text ≡ line_text spelled
+broken_later : (lines : List StepLine) (spelled : StepLine) (number : ℕ) (line : TextLine) (rest : List TextLine) (at : ℕ) (fault : ScriptReason) → line ≡ whole_line (line_text spelled)
     → IsBroken (lines ++ spelled ∷ []) (number + 1) rest at fault → IsBroken lines number (line ∷ rest) at fault
-broken_later lines spelled number line rest at fault e t b =
+broken_later lines spelled number line rest at fault same b =
     let place = b.place in
-    let one = length-append lines (spelled ∷ []) in
     record {
-      before = b.before;
+      more = spelled ∷ b.more;
       line = b.line;
       later = b.later;
-      scripted = b.scripted;
-      text = line_moved lines spelled line (flat_map line_bytes rest) e t ∙ b.text;
+      scripted = subst AreScripted (regroup lines b.more spelled) b.scripted;
+      is = ap₂ (λ l ls. l ∷ ls) same b.is;
       place = omega arith;
-      broken = b.broken;
+      broken = ap (λ all. after_lines all b.line) (sym (regroup lines b.more spelled)) ∙ b.broken;
     }
 
 -- where what follows a part of a line breaks
@@ -156,9 +149,17 @@ from_lines-breaks terms lines number [] at fault h lacks e = cc e
 from_lines-breaks terms lines number (line ∷ rest) at fault h lacks e =
     let p = and_parts (lacks_feed line) (list_all lacks_feed rest) lacks in
     behind_breaks number (after_lines lines line) _ at fault (sym (from_first terms lines number line rest) ∙ e)
-    (λ bad place. record { before = lines; line = line; later = rest; scripted = h; text = refl; place = omega arith; broken = bad })
+    (λ bad place. record {
+      more = [];
+      line = line;
+      later = rest;
+      scripted = rw (append-nil lines) h;
+      is = refl;
+      place = omega arith;
+      broken = rw (append-nil lines) bad;
+    })
     (λ l good b.
     let d = step_after-ok (length lines) (filled_in lines) line l p.0 good in
-    broken_later lines d.spelled number line rest at fault d.end d.text
+    broken_later lines d.spelled number line rest at fault (line_is line d.text d.end)
     (from_lines-breaks terms (lines ++ d.spelled ∷ []) (number + 1) rest at fault (one_more lines d.spelled h (may_stand lines line l d)) p.1
     (sym (moved_on terms lines line l (number + 1) rest d) ∙ b)))

@@ -14,12 +14,12 @@ use Rattle.script.specs.declared.line_step.LineStep.{LineStep}
 use Rattle.script.specs.declared.reason.ScriptReason.{ScriptReason}
 use Rattle.script.specs.declared.reason.ScriptReason.TheVariants as reason
 use Rattle.script.specs.Limits.{most_steps, most_filled}
-use Rattle.script.specs.Lines.{TextLine}
+use Rattle.script.specs.Lines.{TextLine, whole_line}
 use Rattle.script.specs.Spelling.{StepLine, line_text, line_words, is_spellable, filled_by}
 use Rattle.script.specs.Table.{meaning}
 use Rattle.script.specs.Steps.{on_ok, text_in, filling, step_in, step_after}
 use Rattle.script.proofs.TextLemmas.{text_in-ended}
-use Rattle.script.proofs.LineTexts.{whole_line, lacks_feed}
+use Rattle.script.proofs.LineTexts.{lacks_feed}
 use Rattle.script.proofs.StepWords.{line_words-texts, step_in-words, step_in-ok}
 
 pub line_text-text : (line : StepLine) → is_spellable line ≡ true → is_line_text (line_text line) ≡ true

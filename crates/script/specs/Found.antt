@@ -1,14 +1,13 @@
 -- The script that bytes are, or its first broken line.
-use Rattle.std.specs.Prelude.{◌≡◌, ◌≢◌, ◌≤◌, ℕ, ◌+◌, List, [], ◌∷◌, ◌++◌, Result, Ok, Err, length, if◌then◌else◌}
-use Rattle.std.specs.List.{flat_map}
+use Rattle.std.specs.Prelude.{◌≡◌, ℕ, ◌+◌, List, [], ◌∷◌, ◌++◌, Result, Ok, Err, length, map, if◌then◌else◌}
 use Rattle.mux_run.specs.Run.{Terms}
 use Rattle.mux_run.specs.declared.steps.Side.TheVariants.{A, B}
 use Rattle.mux_run.specs.declared.steps.Step.{Step}
 use Rattle.wire_base.specs.declared.frame.Version.{Version}
 use Rattle.script.specs.declared.reason.ScriptReason.{ScriptReason}
 use Rattle.script.specs.declared.reason.ScriptReason.TheVariants as reason
-use Rattle.script.specs.Lines.{TextLine, lines_of, line_bytes}
-use Rattle.script.specs.Spelling.{StepLine, AreTerms, AreScripted, head_lines, head_text, script_text, steps_of, filled_in, has_nonces, no_nonce}
+use Rattle.script.specs.Lines.{TextLine, lines_of, whole_line}
+use Rattle.script.specs.Spelling.{StepLine, AreTerms, AreScripted, head_lines, script_lines, script_text, steps_of, filled_in, has_nonces, no_nonce}
 use Rattle.script.specs.Steps.{on_ok, text_in, step_after, format_in, version_in, nonce_line_in}
 
 -- what bytes are as a script; lines are counted from 1
@@ -73,11 +72,6 @@ pub record BreaksBehind (bytes : List ℕ) (number : ℕ) (fault : ScriptReason)
   pub later : List TextLine
   pub terms_are : AreTerms terms
   pub scripted : AreScripted before
-  pub text : bytes ≡ script_text terms before ++ flat_map line_bytes (line ∷ later)
+  pub is : lines_of bytes ≡ map whole_line (script_lines terms before) ++ line ∷ later
   pub place : number ≡ length before + length (head_lines terms) + 1
   pub broken : step_after (length before) (filled_in before) line ≡ Err fault
-
--- the bytes begin with the head of no script, and this line is one of the four that a head has at most
-pub record BreaksHead (bytes : List ℕ) (number : ℕ) : Type 0 where
-  pub no_head : (terms : Terms) (rest : List ℕ) → AreTerms terms → bytes ≢ head_text terms ++ rest
-  pub place : number ≤ 4

@@ -3,6 +3,7 @@ pub mod Table
 pub mod Spelling
 pub mod Lines
 pub mod Steps
+pub mod Rules
 pub mod Found
 pub mod Numbers
 pub mod Given

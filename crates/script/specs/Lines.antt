@@ -1,5 +1,5 @@
 -- The lines of a text.
-use Rattle.std.specs.Prelude.{ℕ, List, [], ◌∷◌, ◌++◌, Bool, true, false, ◌==◌, if◌then◌else◌}
+use Rattle.std.specs.Prelude.{ℕ, List, [], ◌∷◌, Bool, true, false, ◌==◌, if◌then◌else◌}
 
 -- a line without its line feed, and whether one ends it
 pub record TextLine : Type 0 where
@@ -16,6 +16,6 @@ abbrev pub lines_of : List ℕ → List TextLine
 lines_of [] = []
 lines_of (b ∷ bs) = if b == 10 then record { text = []; has_end = true } ∷ lines_of bs else onto_line b (lines_of bs)
 
--- the bytes of a line
-abbrev pub line_bytes : TextLine → List ℕ
-line_bytes line = if line.has_end then line.text ++ 10 ∷ [] else line.text
+-- a line that has an end
+abbrev pub whole_line : List ℕ → TextLine
+whole_line text = record { text = text; has_end = true }

@@ -70,13 +70,13 @@ head_lines terms = codes "script 1" ∷ version_line terms.version ∷ nonce_lin
 abbrev pub head_text : Terms → List ℕ
 head_text terms = flat_map ended (head_lines terms)
 
--- the text of the lines of steps
-abbrev pub step_lines : List StepLine → List ℕ
-step_lines lines = flat_map (λ line. ended (line_text line)) lines
+-- the lines of a script: those of its head, and one for each step
+abbrev pub script_lines : Terms → List StepLine → List (List ℕ)
+script_lines terms lines = head_lines terms ++ map line_text lines
 
--- the text of a script: its head and the lines of its steps
+-- the text of those lines
 abbrev pub script_text : Terms → List StepLine → List ℕ
-script_text terms lines = head_text terms ++ step_lines lines
+script_text terms lines = flat_map ended (script_lines terms lines)
 
 -- the steps of a script
 abbrev pub steps_of : List StepLine → List Step

@@ -1,26 +1,36 @@
 //! What holds of scripts and their texts.
 
-ghost use Rattle.std.specs.Prelude.{◌≡◌, ◌≢◌, ◌↔◌, ◌+◌, ◌⊎◌, ◌++◌, ℕ, List, Bool, true, length};
+ghost use Rattle.std.specs.Prelude.{◌≡◌, ◌≢◌, ◌≤◌, ◌↔◌, ◌+◌, ◌⊎◌, ◌++◌, ℕ, List, Bool, true, length};
 ghost use Rattle.mux_run.specs.declared.steps.Step.{Step};
 ghost use Rattle.mux_run.specs.Run.{Terms};
 ghost use Rattle.script.specs.declared.reason.ScriptReason.{ScriptReason};
 ghost use Rattle.script.specs.declared.reason.ScriptReason.TheVariants as reason;
-ghost use Rattle.script.specs.Found.{script_in, steps_from, reads, breaks, IsScriptOf, BreaksHead, BreaksBehind};
+ghost use Rattle.script.specs.Found.{script_in, steps_from, reads, breaks, IsScriptOf, BreaksBehind};
 ghost use Rattle.script.specs.Lines.{lines_of};
-ghost use Rattle.script.specs.Spelling.{StepLine, AreTerms, AreScripted, is_spellable, line_text, head_lines, script_text, steps_of, filled_in};
+ghost use Rattle.script.specs.Rules.{IsHeadRefused};
+ghost use Rattle.script.specs.Spelling.{StepLine, AreTerms, AreScripted, is_spellable, line_text, head_lines, head_text, script_text, steps_of, filled_in};
 ghost use Rattle.script.specs.Steps.{step_in, begins_step};
 ghost use Rattle.text_words.specs.Reading.{words_of};
 ghost use Rattle.text_words.specs.Written.{is_line_text};
 
 /// What is read is the text of what was read. What is written is read. Behind the text of a script the next line
-/// decides. Where a line is broken, the text begins with no head and the line is one of the first four, or what
-/// stands before it is the text of a script.
+/// decides.
 pub fn scripts_are_their_texts()
     ensures read { (bytes : List ℕ) (terms : Terms) (steps : List Step) → script_in bytes ≡ reads terms steps → IsScriptOf bytes terms steps }
     ensures written { (terms : Terms) (lines : List StepLine) → AreTerms terms → AreScripted lines → script_in (script_text terms lines) ≡ reads terms (steps_of lines) }
     ensures goes_on { (terms : Terms) (lines : List StepLine) (rest : List ℕ) → AreTerms terms → AreScripted lines
         → script_in (script_text terms lines ++ rest) ≡ steps_from terms (steps_of lines) (filled_in lines) (length lines + length (head_lines terms) + 1) (lines_of rest) }
-    ensures broken { (bytes : List ℕ) (number : ℕ) (fault : ScriptReason) → script_in bytes ≡ breaks number fault → BreaksHead bytes number ⊎ BreaksBehind bytes number fault }
+{}
+
+/// A script is refused at its first line that breaks a rule, for that rule's reason, and only there: in its head, or
+/// behind the text of a script. A text that is refused in its head begins with none, and a head has four lines at most.
+pub fn script_refuses_the_first()
+    ensures refused { (bytes : List ℕ) (number : ℕ) (why : ScriptReason) → script_in bytes ≡ breaks number why
+        → IsHeadRefused (lines_of bytes) number why ⊎ BreaksBehind bytes number why }
+    ensures refuses { (bytes : List ℕ) (number : ℕ) (why : ScriptReason) → IsHeadRefused (lines_of bytes) number why ⊎ BreaksBehind bytes number why
+        → script_in bytes ≡ breaks number why }
+    ensures headless { (bytes : List ℕ) (number : ℕ) (why : ScriptReason) → IsHeadRefused (lines_of bytes) number why
+        → (number ≤ 4) × ((terms : Terms) (rest : List ℕ) → AreTerms terms → bytes ≢ head_text terms ++ rest) }
 {}
 
 /// A line has a bad word exactly if it begins with a step word that has a step and is the text of none.

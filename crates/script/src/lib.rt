@@ -12,7 +12,7 @@ mod step_word;
 mod steps;
 
 pub use fault::ScriptFault;
-pub use laws::{bad_words_are_of_no_step, scripts_are_their_texts};
+pub use laws::{bad_words_are_of_no_step, script_refuses_the_first, scripts_are_their_texts};
 pub use reading::{Script, read_script};
 pub use reason::ScriptReason;
 

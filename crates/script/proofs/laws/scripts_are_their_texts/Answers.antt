@@ -1,4 +1,4 @@
-use Rattle.script.proofs.ScriptLaws.{is_read, written, goes_on, is_broken}
+use Rattle.script.proofs.ScriptLaws.{is_read, written, goes_on}
 use Rattle.script.proofs.laws.scripts_are_their_texts.Goals as goal
 
 pub returns-clause-read : goal.returns-clause-read
@@ -9,6 +9,3 @@ returns-clause-written c = written
 
 pub returns-clause-goes_on : goal.returns-clause-goes_on
 returns-clause-goes_on c = goes_on
-
-pub returns-clause-broken : goal.returns-clause-broken
-returns-clause-broken c = is_broken
