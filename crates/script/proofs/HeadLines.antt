@@ -100,7 +100,7 @@ one_version v w e =
 
 -- why each refuses others
 
-err_same : {X : Type 0} (fault other : ScriptReason) (r : Result X ScriptReason) → r ≡ Err fault → r ≡ Err other → other ≡ fault
+pub err_same : {X : Type 0} (fault other : ScriptReason) (r : Result X ScriptReason) → r ≡ Err fault → r ≡ Err other → other ≡ fault
 err_same fault other r one two = cc (sym one ∙ two)
 
 chosen_err : {X : Type 0} (b : Bool) (x : X) (r : Result X ScriptReason) (fault : ScriptReason) → cond b (Ok x) r ≡ Err fault → r ≡ Err fault
@@ -136,7 +136,7 @@ broken_rule read first line rest fault refuses e =
       | inr u ↦ subst P (sym (err_same reason.NotUtf8 fault _ refl (rw u at e))) u
       | inl u ↦ elim (tested line.has_end) [
         | inr open_end ↦ subst P (sym (err_same reason.NoLineEnd fault _ refl (rw (u, open_end) at e))) (u, open_end)
-        | inl end ↦ let p = refuses line.text fault (rw (u, end) at e) in subst P (sym p.0) (u, end, p.1)
+        | inl end ↦ let p = refuses line.text fault (rw (u, end) at e) in subst P (sym p.0) ((u, end), p.1)
       ]
     ]
 

@@ -67,7 +67,7 @@ line_text first text h =
 breaks_none : (why : ScriptReason) (first : List (List ℕ)) (text : List ℕ) (rest : List TextLine) → BeginsHead (first ++ text ∷ []) → BreaksHeadRule why first (whole_line text ∷ rest) → ⊥
 breaks_none reason.NotUtf8 first text rest h b = not_both (is_utf8 text) (line_text first text h) b
 breaks_none reason.NoLineEnd first text rest h b = cc (b.1)
-breaks_none reason.BadHead first text rest h b = b.2 h
+breaks_none reason.BadHead first text rest h b = b.1 h
 breaks_none reason.UnknownStep first text rest h b = b
 breaks_none reason.BadWord first text rest h b = b
 breaks_none reason.BadJson first text rest h b = b
@@ -84,7 +84,7 @@ breaks_one reason.NotUtf8 first (line ∷ rest) b = rw b refl
 breaks_one reason.NotUtf8 first [] b = absurd b
 breaks_one reason.NoLineEnd first (line ∷ rest) b = rw (b.0, b.1) refl
 breaks_one reason.NoLineEnd first [] b = absurd b
-breaks_one reason.BadHead first (line ∷ rest) b = rw (b.0, b.1) refl
+breaks_one reason.BadHead first (line ∷ rest) b = rw (b.0.0, b.0.1) refl
 breaks_one reason.BadHead first [] b = refl
 breaks_one reason.UnknownStep first rest b = absurd b
 breaks_one reason.BadWord first rest b = absurd b

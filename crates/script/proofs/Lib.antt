@@ -8,6 +8,7 @@ pub mod Scripts
 pub mod NonceLines
 pub mod HeadLines
 pub mod HeadRules
+pub mod StepRules
 pub mod Heads
 pub mod ScriptLaws
 pub mod AnswersOfRead

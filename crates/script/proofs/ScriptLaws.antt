@@ -1,11 +1,10 @@
 -- Scripts and their texts.
-use Rattle.std.proofs.Common.{◌≡◌, ◌≢◌, ℕ, ◌+◌, ◌≤◌, ◌⊎◌, inl, inr, true, List, [], ◌∷◌, ◌++◌, length, map, refl, Err, sym, ap, ap₂, subst, ◌∙◌, arith, append_assoc}
+use Rattle.std.proofs.Common.{◌≡◌, ◌≢◌, ℕ, ◌+◌, ◌≤◌, ◌⊎◌, inl, inr, true, List, [], ◌∷◌, ◌++◌, length, length-append, map, refl, Err, sym, ap, ap₂, subst, ◌∙◌, arith, append_assoc}
 use Rattle.std.specs.Prelude.{◌↔◌}
-use Rattle.std.specs.List.{list_all, join_with_byte}
+use Rattle.std.specs.List.{list_all}
 use Rattle.std.proofs.lemmas.Bool.{and_parts}
 use Rattle.std.proofs.lemmas.List.{append-nil, length-map, map-append}
 use Rattle.std.proofs.lemmas.List.Folds.{list_all-append}
-use Rattle.std.proofs.lemmas.List.Splits.{join_with_byte-slice_split}
 use Rattle.mux_run.specs.Run.{Terms}
 use Rattle.mux_run.specs.declared.steps.Step.{Step}
 use Rattle.script.specs.declared.reason.ScriptReason.{ScriptReason}
@@ -17,11 +16,12 @@ use Rattle.text_words.proofs.Joined.{line-words}
 use Rattle.script.specs.Spelling.{StepLine, AreTerms, AreScripted, is_spellable, step_of, line_text, line_words, steps_of, filled_in, script_lines, script_text, head_lines, head_text}
 use Rattle.script.specs.Lines.{TextLine, lines_of, whole_line}
 use Rattle.script.specs.Steps.{step_in, begins_step}
-use Rattle.script.specs.Rules.{IsHeadRefused}
-use Rattle.script.specs.Found.{reads, breaks, steps_from, script_from, script_in, BreaksBehind, IsScriptOf}
+use Rattle.script.specs.Rules.{IsHeadRefused, IsStepRefused}
+use Rattle.script.specs.Found.{reads, breaks, steps_from, script_from, script_in, IsScriptOf}
 use Rattle.script.proofs.LineTexts.{lacks_feed, lines_of-lack, lines_of-lines, text_of-lines}
-use Rattle.script.proofs.StepLines.{line_text-text, line_text-words}
-use Rattle.script.proofs.StepWords.{step_in-words, step_in-ok, bad_word-begins, bad_or_step}
+use Rattle.script.proofs.StepLines.{line_text-text, line_text-words, line_of_words}
+use Rattle.script.proofs.StepWords.{step_in-words, step_in-ok, bad_or_step}
+use Rattle.script.proofs.StepRules.{step_in-err, breaks_step, step_refused}
 use Rattle.script.proofs.HeadLines.{head_lines-texts}
 use Rattle.script.proofs.HeadRules.{refused_within, refused_once, refused_headless}
 use Rattle.script.proofs.Heads.{head_goes_on, head_cases}
@@ -42,6 +42,9 @@ script_lines-texts terms lines h spelled = rw (list_all-append is_line_text (hea
 -- the lines of steps behind those of a head
 behind_head : (terms : Terms) (lines : List StepLine) (rest : List TextLine) → map whole_line (script_lines terms lines) ++ rest ≡ map whole_line (head_lines terms) ++ (whole_lines lines ++ rest)
 behind_head terms lines rest = ap (λ ls. ls ++ rest) (map-append whole_line (head_lines terms) (map line_text lines)) ∙ append_assoc (map whole_line (head_lines terms)) (whole_lines lines) rest
+
+length-script_lines : (terms : Terms) (lines : List StepLine) → length (script_lines terms lines) ≡ length (head_lines terms) + length lines
+length-script_lines terms lines = length-append (head_lines terms) (map line_text lines) ∙ ap (λ n. length (head_lines terms) + n) (length-map lines line_text)
 
 -- behind the lines of a script the next line decides
 lines_go_on : (terms : Terms) (lines : List StepLine) (rest : List TextLine) → AreTerms terms → AreScripted lines
@@ -91,7 +94,7 @@ is_read bytes terms steps h = elim (head_cases (lines_of bytes)) [
 ]
 
 -- the first broken line is one of a head's, or what stands before it is a script
-pub is_refused : (bytes : List ℕ) (number : ℕ) (why : ScriptReason) → script_in bytes ≡ breaks number why → IsHeadRefused (lines_of bytes) number why ⊎ BreaksBehind bytes number why
+pub is_refused : (bytes : List ℕ) (number : ℕ) (why : ScriptReason) → script_in bytes ≡ breaks number why → IsHeadRefused (lines_of bytes) number why ⊎ IsStepRefused (lines_of bytes) number why
 is_refused bytes number why h = elim (head_cases (lines_of bytes)) [
   | inr none ↦
       let same : breaks none.number none.fault ≡ breaks number why = sym none.is ∙ h in
@@ -104,16 +107,17 @@ is_refused bytes number why h = elim (head_cases (lines_of bytes)) [
       let lacks = lacks_behind (head_lines head.terms) head.rest (rw head.is at (lines_of-lack bytes)) in
       let broken = from_lines-breaks head.terms [] (length (head_lines head.terms) + 1) head.rest number why none_scripted lacks all in
       let place = broken.place in
+      let counted = length-script_lines head.terms broken.more in
       inr (record {
         terms = head.terms;
         before = broken.more;
         line = broken.line;
-        later = broken.later;
+        rest = broken.later;
         terms_are = head.terms_are;
         scripted = broken.scripted;
         is = head.is ∙ (ap (λ rest. map whole_line (head_lines head.terms) ++ rest) broken.is ∙ sym (behind_head head.terms broken.more (broken.line ∷ broken.later)));
         place = omega arith;
-        broken = broken.broken;
+        breaks_rule = breaks_step why broken.line broken.more broken.scripted.few broken.broken;
       })
 ]
 
@@ -123,18 +127,20 @@ refuses_head lines number why h = elim (head_cases lines) [
   | inr none ↦ let same = refused_once lines none.number number none.fault why none.refused h in none.is ∙ ap₂ breaks same.0 same.1
 ]
 
-refuses_behind : (bytes : List ℕ) (number : ℕ) (why : ScriptReason) → BreaksBehind bytes number why → script_in bytes ≡ breaks number why
-refuses_behind bytes number why h =
-    let first = length h.before + length (head_lines h.terms) + 1 in
-    let counted = length-map h.before step_of in
-    ap script_from h.is
-    ∙ (lines_go_on h.terms h.before (h.line ∷ h.later) h.terms_are h.scripted
-    ∙ rw (counted, h.broken) (ap (λ n. breaks n why) (sym h.place)))
+refuses_step : (bytes : List ℕ) (number : ℕ) (why : ScriptReason) → IsStepRefused (lines_of bytes) number why → script_in bytes ≡ breaks number why
+refuses_step bytes number why h =
+    let lacks = lacks_behind (script_lines h.terms h.before) (h.line ∷ h.rest) (rw (h.is) at (lines_of-lack bytes)) in
+    let line = and_parts (lacks_feed h.line) (list_all lacks_feed h.rest) lacks in
+    let broken = step_refused why h.line h.before line.0 h.breaks_rule in
+    let steps = length-map h.before step_of in
+    let counted = length-script_lines h.terms h.before in
+    let place : length h.before + length (head_lines h.terms) + 1 ≡ number = omega (arith, h.place) in
+    ap script_from h.is ∙ (lines_go_on h.terms h.before (h.line ∷ h.rest) h.terms_are h.scripted ∙ rw (steps, broken) (ap (λ n. breaks n why) place))
 
 -- and such a line is refused
-pub refuses : (bytes : List ℕ) (number : ℕ) (why : ScriptReason) → IsHeadRefused (lines_of bytes) number why ⊎ BreaksBehind bytes number why → script_in bytes ≡ breaks number why
+pub refuses : (bytes : List ℕ) (number : ℕ) (why : ScriptReason) → IsHeadRefused (lines_of bytes) number why ⊎ IsStepRefused (lines_of bytes) number why → script_in bytes ≡ breaks number why
 refuses bytes number why (inl head) = refuses_head (lines_of bytes) number why head
-refuses bytes number why (inr behind) = refuses_behind bytes number why behind
+refuses bytes number why (inr step) = refuses_step bytes number why step
 
 -- a text that is refused in its head begins with none
 pub headless : (bytes : List ℕ) (number : ℕ) (why : ScriptReason) → IsHeadRefused (lines_of bytes) number why → (number ≤ 4) × ((terms : Terms) (rest : List ℕ) → AreTerms terms → bytes ≢ head_text terms ++ rest)
@@ -144,9 +150,6 @@ headless bytes number why h = (
       refused_headless (lines_of bytes) number why h terms (lines_of rest) are (ap lines_of same ∙ lines_of-lines (head_lines terms) rest (head_lines-texts terms are)),
 )
 
-joined : (text : List ℕ) (line : StepLine) → words_of text ≡ line_words line → line_text line ≡ text
-joined text line e = sym (sym (join_with_byte-slice_split 32 text) ∙ ap (join_with_byte 32) e)
-
 no_bad_word : (line : StepLine) → is_spellable line ≡ true → step_in (line_words line) ≢ Err reason.BadWord
 no_bad_word line spelled h = let e = step_in-words line spelled in cc
 
@@ -155,13 +158,13 @@ pub bad_word : (text : List ℕ) → is_line_text text ≡ true → (step_in (wo
     ↔ ((begins_step (words_of text) ≡ true) × ((line : StepLine) → is_spellable line ≡ true → line_text line ≢ text))
 bad_word text is_line = (
   λ h. (
-    bad_word-begins (words_of text) h,
+    step_in-err (words_of text) reason.BadWord h,
     λ line spelled same. no_bad_word line spelled (sym (ap step_in (line_text-words line spelled)) ∙ ap (λ t. step_in (words_of t)) same ∙ h),
   ),
   λ p. elim (bad_or_step (words_of text) p.0) [
     | inl h ↦ h
     | inr q ↦
         let read = step_in-ok (words_of text) q.0 (line-words text is_line) q.1 in
-        absurd (p.1 read.line read.spellable (joined text read.line read.is))
+        absurd (p.1 read.line read.spellable (line_of_words text read.line read.is))
   ],
 )

@@ -32,8 +32,12 @@ text_in-line : (line : StepLine) → is_spellable line ≡ true → text_in (who
 text_in-line line h =
     text_in-ended (whole_line (line_text line)) (IsUtf8-from_is_utf8 (line_text line) (and_parts (is_utf8 (line_text line)) (list_all stands_in_line (line_text line)) (line_text-text line h)).0) refl
 
-step_in-line : (line : StepLine) → is_spellable line ≡ true → step_in (words_of (line_text line)) ≡ Ok (meaning line.word line.values)
+pub step_in-line : (line : StepLine) → is_spellable line ≡ true → step_in (words_of (line_text line)) ≡ Ok (meaning line.word line.values)
 step_in-line line h = ap step_in (line_text-words line h) ∙ step_in-words line h
+
+-- a line with these words
+pub line_of_words : (text : List ℕ) (line : StepLine) → words_of text ≡ line_words line → line_text line ≡ text
+line_of_words text line e = sym (sym (join_with_byte-slice_split 32 text) ∙ ap (join_with_byte 32) e)
 
 filling-ok : (filled : ℕ) (l : LineStep) → filled + l.filled ≤ most_filled → filling filled l ≡ Ok l
 unfolding filling

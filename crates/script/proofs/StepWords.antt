@@ -112,7 +112,7 @@ step_in-ok (first ∷ words) l t h = step_behind-ok first (step_word_in first) w
 
 -- ---- bad words
 
-begins_by : (ws : List StepWord) (text : List ℕ) (w : StepWord) → word_among ws text ≡ Some w → list_any (λ v. bytes_eq text (word_text v)) ws ≡ true
+pub begins_by : (ws : List StepWord) (text : List ℕ) (w : StepWord) → word_among ws text ≡ Some w → list_any (λ v. bytes_eq text (word_text v)) ws ≡ true
 begins_by [] text w h = cc h
 begins_by (v ∷ ws) text w h = elim (tested (bytes_eq text (word_text v))) [
   | inl e ↦ rw e refl
@@ -125,21 +125,6 @@ begun_by (v ∷ ws) text h = elim (tested (bytes_eq text (word_text v))) [
   | inl e ↦ (v, rw e refl)
   | inr e ↦ let p = begun_by ws text (rw e at h) in (p.0, rw e p.1)
 ]
-
-no_bad_word : (b : Bool) → cond {A = Result LineStep ScriptReason} b (Err reason.NotBuilt) (Err reason.UnknownStep) ≡ Err reason.BadWord → ⊥
-no_bad_word true h = cc h
-no_bad_word false h = cc h
-
-bad_behind : (first : List ℕ) (o : Option StepWord) (words : List (List ℕ)) → step_word_in first ≡ o → step_behind first o words ≡ Err reason.BadWord → begins_step (first ∷ words) ≡ true
-unfolding step_word_in
-bad_behind first None words e h = absurd (no_bad_word (is_later first) h)
-bad_behind first (Some w) words e h = begins_by step_words first w e
-
--- a bad word comes behind a step word
-pub bad_word-begins : (words : List (List ℕ)) → step_in words ≡ Err reason.BadWord → begins_step words ≡ true
-unfolding step_in
-bad_word-begins [] h = cc h
-bad_word-begins (first ∷ words) h = bad_behind first (step_word_in first) words refl h
 
 bad_or_ok : (w : StepWord) (o : Option (FormValues (forms_of w))) → (ok_or (option_map (meaning w) o) reason.BadWord ≡ Err reason.BadWord) ⊎ ((l : LineStep) × (ok_or (option_map (meaning w) o) reason.BadWord ≡ Ok l))
 bad_or_ok w (Some xs) = inr (meaning w xs, refl)

@@ -1,13 +1,13 @@
 -- The script that bytes are, or its first broken line.
-use Rattle.std.specs.Prelude.{◌≡◌, ℕ, ◌+◌, List, [], ◌∷◌, ◌++◌, Result, Ok, Err, length, map, if◌then◌else◌}
+use Rattle.std.specs.Prelude.{◌≡◌, ℕ, ◌+◌, List, [], ◌∷◌, ◌++◌, Result, Ok, Err, length, if◌then◌else◌}
 use Rattle.mux_run.specs.Run.{Terms}
 use Rattle.mux_run.specs.declared.steps.Side.TheVariants.{A, B}
 use Rattle.mux_run.specs.declared.steps.Step.{Step}
 use Rattle.wire_base.specs.declared.frame.Version.{Version}
 use Rattle.script.specs.declared.reason.ScriptReason.{ScriptReason}
 use Rattle.script.specs.declared.reason.ScriptReason.TheVariants as reason
-use Rattle.script.specs.Lines.{TextLine, lines_of, whole_line}
-use Rattle.script.specs.Spelling.{StepLine, AreTerms, AreScripted, head_lines, script_lines, script_text, steps_of, filled_in, has_nonces, no_nonce}
+use Rattle.script.specs.Lines.{TextLine, lines_of}
+use Rattle.script.specs.Spelling.{StepLine, AreTerms, AreScripted, script_text, steps_of, has_nonces, no_nonce}
 use Rattle.script.specs.Steps.{on_ok, text_in, step_after, format_in, version_in, nonce_line_in}
 
 -- what bytes are as a script; lines are counted from 1
@@ -63,15 +63,3 @@ pub record IsScript (bytes : List ℕ) (terms : Terms) (lines : List StepLine) :
 -- the bytes are the text of a script with these terms and steps
 abbrev pub IsScriptOf : List ℕ → Terms → List Step → Type 0
 IsScriptOf bytes terms steps = (lines : List StepLine) × (steps ≡ steps_of lines) × IsScript bytes terms lines
-
--- what stands before this line is a script, and the line is the first that breaks it
-pub record BreaksBehind (bytes : List ℕ) (number : ℕ) (fault : ScriptReason) : Type 0 where
-  pub terms : Terms
-  pub before : List StepLine
-  pub line : TextLine
-  pub later : List TextLine
-  pub terms_are : AreTerms terms
-  pub scripted : AreScripted before
-  pub is : lines_of bytes ≡ map whole_line (script_lines terms before) ++ line ∷ later
-  pub place : number ≡ length before + length (head_lines terms) + 1
-  pub broken : step_after (length before) (filled_in before) line ≡ Err fault

@@ -49,6 +49,11 @@ abbrev pub begins_step : List (List ℕ) → Bool
 begins_step [] = false
 begins_step (first ∷ words) = list_any (λ w. bytes_eq first (word_text w)) step_words
 
+-- the first word is a step word that has none yet
+abbrev pub begins_later : List (List ℕ) → Bool
+begins_later [] = false
+begins_later (first ∷ words) = is_later first
+
 -- the next answer, behind an answer without a fault
 abbrev pub on_ok : {X Y : Type 0} → Result X ScriptReason → (X → Result Y ScriptReason) → Result Y ScriptReason
 on_ok (Ok x) f = f x

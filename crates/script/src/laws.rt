@@ -5,9 +5,9 @@ ghost use Rattle.mux_run.specs.declared.steps.Step.{Step};
 ghost use Rattle.mux_run.specs.Run.{Terms};
 ghost use Rattle.script.specs.declared.reason.ScriptReason.{ScriptReason};
 ghost use Rattle.script.specs.declared.reason.ScriptReason.TheVariants as reason;
-ghost use Rattle.script.specs.Found.{script_in, steps_from, reads, breaks, IsScriptOf, BreaksBehind};
+ghost use Rattle.script.specs.Found.{script_in, steps_from, reads, breaks, IsScriptOf};
 ghost use Rattle.script.specs.Lines.{lines_of};
-ghost use Rattle.script.specs.Rules.{IsHeadRefused};
+ghost use Rattle.script.specs.Rules.{IsHeadRefused, IsStepRefused};
 ghost use Rattle.script.specs.Spelling.{StepLine, AreTerms, AreScripted, is_spellable, line_text, head_lines, head_text, script_text, steps_of, filled_in};
 ghost use Rattle.script.specs.Steps.{step_in, begins_step};
 ghost use Rattle.text_words.specs.Reading.{words_of};
@@ -23,11 +23,11 @@ pub fn scripts_are_their_texts()
 {}
 
 /// A script is refused at its first line that breaks a rule, for that rule's reason, and only there: in its head, or
-/// behind the text of a script. A text that is refused in its head begins with none, and a head has four lines at most.
+/// behind the lines of a script. A text that is refused in its head begins with none, and a head has four lines at most.
 pub fn script_refuses_the_first()
     ensures refused { (bytes : List ℕ) (number : ℕ) (why : ScriptReason) → script_in bytes ≡ breaks number why
-        → IsHeadRefused (lines_of bytes) number why ⊎ BreaksBehind bytes number why }
-    ensures refuses { (bytes : List ℕ) (number : ℕ) (why : ScriptReason) → IsHeadRefused (lines_of bytes) number why ⊎ BreaksBehind bytes number why
+        → IsHeadRefused (lines_of bytes) number why ⊎ IsStepRefused (lines_of bytes) number why }
+    ensures refuses { (bytes : List ℕ) (number : ℕ) (why : ScriptReason) → IsHeadRefused (lines_of bytes) number why ⊎ IsStepRefused (lines_of bytes) number why
         → script_in bytes ≡ breaks number why }
     ensures headless { (bytes : List ℕ) (number : ℕ) (why : ScriptReason) → IsHeadRefused (lines_of bytes) number why
         → (number ≤ 4) × ((terms : Terms) (rest : List ℕ) → AreTerms terms → bytes ≢ head_text terms ++ rest) }
