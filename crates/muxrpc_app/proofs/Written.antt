@@ -1,8 +1,5 @@
 -- What one more write adds.
-use Rattle.mux_run.specs.Run.{Terms}
-use Rattle.mux_run.specs.declared.steps.Step.{Step}
-use Rattle.transcript.specs.Report.{report_text}
-use Rattle.std.proofs.Common.{◌≡◌, ℕ, suc, ◌+◌, ◌<◌, List, [], ◌++◌, length, take, drop, get_or, Option, Some, None, Result, Ok, Err, refl, sym, ◌∙◌, ap, append_assoc, drop-cons}
+use Rattle.std.proofs.Common.{◌≡◌, ℕ, suc, ◌+◌, ◌<◌, List, ◌++◌, length, take, drop, get_or, Option, Some, None, Result, Ok, Err, refl, sym, ◌∙◌, ap, append_assoc, drop-cons}
 use Rattle.std.proofs.Math.Seq.{take-add, take-append-add, take-append_seam, take-length}
 use Rattle.std.proofs.lemmas.List.{take-append-drop}
 use Rattle.std.proofs.lemmas.List.Concat.{flat_map-append}
@@ -18,10 +15,6 @@ append_known-twice (Some bytes) xs ys = ap Some (append_assoc bytes xs ys)
 pub wrote_more : (given before now : Option (List ℕ)) (at count : ℕ) (bytes piece : List ℕ) → piece ≡ drop at bytes → before ≡ append_known given (take at bytes) → now ≡ append_known before (take count piece) → now ≡ append_known given (take (at + count) bytes)
 wrote_more given before now at count bytes piece piece_is was is =
     is ∙ (ap (λ bs. append_known before (take count bs)) piece_is ∙ (ap (λ g. append_known g (take count (drop at bytes))) was ∙ (append_known-twice given (take at bytes) (take count (drop at bytes)) ∙ ap (append_known given) (sym (take-add at count bytes)))))
-
--- a report behind nothing
-pub told_behind_nothing : (text before : List ℕ) (t u : Terms) (steps : List Step) → before ≡ [] → text ≡ before ++ report_text t steps → t ≡ u → text ≡ report_text u steps
-told_behind_nothing text before t u steps none told same = told ∙ (ap (λ bs. bs ++ report_text t steps) none ∙ ap (λ t. report_text t steps) same)
 
 -- bytes that were all written are a front of themselves
 pub wrote_all : {X E : Type 0} (r : Result X E) (given now : Option (List ℕ)) (bytes : List ℕ) → now ≡ append_known given bytes → OnErr r (WroteFront given now bytes)

@@ -1,7 +1,7 @@
 -- Lines of channels, one after the other.
 use Rattle.std.specs.Prelude.{if◌then◌else◌}
 use Rattle.std.specs.List.{flat_map}
-use Rattle.std.proofs.Common.{◌≡◌, ℕ, suc, ◌+◌, ◌<◌, ◌≤◌, List, [], ◌∷◌, ◌++◌, length, drop, filter, Bool, true, false, Option, Some, None, slice_get, refl, sym, ◌∙◌, ap, arith, append_assoc, add-one, drop-cons, inl, inr}
+use Rattle.std.proofs.Common.{◌≡◌, ℕ, suc, ◌+◌, ◌<◌, List, [], ◌∷◌, ◌++◌, length, drop, filter, Bool, true, false, Option, Some, None, slice_get, refl, sym, ◌∙◌, ap, append_assoc, add-one, drop-cons, inl, inr}
 use Rattle.std.proofs.lemmas.List.{append-nil, drop_all}
 use Rattle.std.proofs.lemmas.Option.{slice_get_within, slice_get_cases, get_or_from_slice_get}
 use Rattle.wire_base.specs.declared.state.Cause.{Cause}

@@ -1,5 +1,5 @@
 -- What a side emits in a step.
-use Rattle.std.proofs.Common.{◌≡◌, ℕ, ◌≤◌, List, [], ◌++◌, length, take, drop, refl, sym, ◌∙◌, ap, subst, arith, append_assoc, length-append}
+use Rattle.std.proofs.Common.{◌≡◌, ℕ, ◌≤◌, List, [], ◌++◌, length, take, drop, refl, sym, ◌∙◌, ap, ap₂, subst, arith, append_assoc, length-append}
 use Rattle.std.proofs.lemmas.List.{append-nil, append_cancel_left, take-append-le, drop_at, drop_all}
 use Rattle.std.specs.Fmt.{decimal}
 use Rattle.std.specs.Prelude.{codes}
@@ -56,34 +56,41 @@ pub record StepTold (terms : Terms) (k : ℕ) (s : Step) (w : World) (side : Sid
   pub within : length (output_to (other_side side) old) ≤ length (output_to (other_side side) new)
   pub text : decimal k ++ codes " " ++ answer_lines side result ++ emitted_line side (drop (length (output_to (other_side side) old)) (output_to (other_side side) new)) ≡ step_lines terms k s w
 
+-- the lines of a step by all that is in them
+abbrev step_text : ℕ → Side → DuoAnswer → (of_a of_b : List ℕ) → List ℕ
+step_text k side result of_a of_b = decimal k ++ codes " " ++ answer_lines side result ++ emitted_line A of_a ++ emitted_line B of_b
+
+alone_a : (k : ℕ) (result : DuoAnswer) (bytes : List ℕ) → decimal k ++ codes " " ++ answer_lines A result ++ emitted_line A bytes ≡ step_text k A result bytes []
+alone_a k result bytes = sym (append-nil (decimal k ++ codes " " ++ answer_lines A result ++ emitted_line A bytes))
+
+alone_b : (k : ℕ) (result : DuoAnswer) (bytes : List ℕ) → decimal k ++ codes " " ++ answer_lines B result ++ emitted_line B bytes ≡ step_text k B result [] bytes
+alone_b k result bytes = ap (λ bs. bs ++ emitted_line B bytes) (sym (append-nil (decimal k ++ codes " " ++ answer_lines B result)))
+
+-- they are those of the run, where each part is
+step_text-is : (terms : Terms) (k : ℕ) (s : Step) (w after : World) (side : Side) (result : DuoAnswer) (of_a of_b : List ℕ) → side ≡ side_of s → result ≡ answer terms s w → after ≡ happens terms s w
+    → of_a ≡ newly_out terms.version terms.nonce_a w.a.items after.a.items → of_b ≡ newly_out terms.version terms.nonce_b w.b.items after.b.items → step_text k side result of_a of_b ≡ step_lines terms k s w
+step_text-is terms k s w after side result of_a of_b at is world a b =
+    ap₂ (λ side r. step_text k side r of_a of_b) at is
+    ∙ (ap₂ (step_text k (side_of s) (answer terms s w)) a b
+    ∙ ap (λ u. step_text k (side_of s) (answer terms s w) (newly_out terms.version terms.nonce_a w.a.items u.a.items) (newly_out terms.version terms.nonce_b w.b.items u.b.items)) world)
+
 told_at : (terms : Terms) (k : ℕ) (s : Step) (w : World) (side : Side) (result : DuoAnswer) (old new : DuoState) → side ≡ side_of s → result ≡ answer terms s w
     → StandForWorld terms old.a old.b w → StandForWorld terms new.a new.b (happens_at terms side s w) → StepTold terms k s w side result old new
 told_at terms k s w A result old new at is was now =
     let e = emits_at (terms_at_a terms) s w.a w.b old.a new.a was.at_own now.at_own in
-    let front = decimal k ++ codes " " in
-    let after : happens terms s w ≡ happens_at terms A s w = ap (λ side. happens_at terms side s w) (sym at) in
     record {
       within = e.within;
       text =
-          ap (λ bs. front ++ answer_lines A result ++ emitted_line A bs) (sym e.bytes)
-          ∙ (sym (append-nil (front ++ answer_lines A result ++ emitted_line A (newly_out terms.version terms.nonce_a w.a.items (happens_at terms A s w).a.items)))
-          ∙ (ap (λ bs. front ++ answer_lines A result ++ emitted_line A (newly_out terms.version terms.nonce_a w.a.items (happens_at terms A s w).a.items) ++ emitted_line B bs) (sym (nothing_new terms.version terms.nonce_b w.b.items))
-          ∙ (ap (λ r. front ++ answer_lines A r ++ emitted_line A (newly_out terms.version terms.nonce_a w.a.items (happens_at terms A s w).a.items) ++ emitted_line B (newly_out terms.version terms.nonce_b w.b.items (happens_at terms A s w).b.items)) is
-          ∙ (ap (λ side. front ++ answer_lines side (answer terms s w) ++ emitted_line A (newly_out terms.version terms.nonce_a w.a.items (happens_at terms A s w).a.items) ++ emitted_line B (newly_out terms.version terms.nonce_b w.b.items (happens_at terms A s w).b.items)) at
-          ∙ ap (λ u. front ++ answer_lines (side_of s) (answer terms s w) ++ emitted_line A (newly_out terms.version terms.nonce_a w.a.items u.a.items) ++ emitted_line B (newly_out terms.version terms.nonce_b w.b.items u.b.items)) (sym after)))));
+          alone_a k result (drop (length old.a.output) new.a.output)
+          ∙ step_text-is terms k s w (happens_at terms A s w) A result _ [] at is (ap (λ side. happens_at terms side s w) at) (sym e.bytes) (sym (nothing_new terms.version terms.nonce_b w.b.items));
     }
 told_at terms k s w B result old new at is was now =
     let e = emits_at (terms_at_b terms) s w.b w.a old.b new.b was.at_peer now.at_peer in
-    let front = decimal k ++ codes " " in
-    let after : happens terms s w ≡ happens_at terms B s w = ap (λ side. happens_at terms side s w) (sym at) in
     record {
       within = e.within;
       text =
-          ap (λ bs. front ++ answer_lines B result ++ emitted_line B bs) (sym e.bytes)
-          ∙ (ap (λ bs. bs ++ emitted_line B (newly_out terms.version terms.nonce_b w.b.items (happens_at terms B s w).b.items)) (sym (append-nil (front ++ answer_lines B result)) ∙ ap (λ bs. front ++ answer_lines B result ++ emitted_line A bs) (sym (nothing_new terms.version terms.nonce_a w.a.items)))
-          ∙ (ap (λ r. front ++ answer_lines B r ++ emitted_line A (newly_out terms.version terms.nonce_a w.a.items (happens_at terms B s w).a.items) ++ emitted_line B (newly_out terms.version terms.nonce_b w.b.items (happens_at terms B s w).b.items)) is
-          ∙ (ap (λ side. front ++ answer_lines side (answer terms s w) ++ emitted_line A (newly_out terms.version terms.nonce_a w.a.items (happens_at terms B s w).a.items) ++ emitted_line B (newly_out terms.version terms.nonce_b w.b.items (happens_at terms B s w).b.items)) at
-          ∙ ap (λ u. front ++ answer_lines (side_of s) (answer terms s w) ++ emitted_line A (newly_out terms.version terms.nonce_a w.a.items u.a.items) ++ emitted_line B (newly_out terms.version terms.nonce_b w.b.items u.b.items)) (sym after))));
+          alone_b k result (drop (length old.b.output) new.b.output)
+          ∙ step_text-is terms k s w (happens_at terms B s w) B result [] _ at is (ap (λ side. happens_at terms side s w) at) (sym (nothing_new terms.version terms.nonce_a w.a.items)) (sym e.bytes);
     }
 
 -- the run of one more step
@@ -105,12 +112,9 @@ made_of old new s (duo.Replied reply events) h works = h
 made_of old new s (duo.Delivered count events) h works = h
 made_of old new s duo.Ended h works = h
 
--- the lines of a step behind what was told before
-pub step_lines_are : (k : ℕ) (s : Step) (side : Side) (result : DuoAnswer) (old new : DuoState) (out m₁ m₂ m₃ m₄ bytes : List ℕ) → StepTold old.terms k s (run old.terms old.steps) side result old new
-    → m₁ ≡ out ++ decimal k → m₂ ≡ m₁ ++ codes " " → m₃ ≡ m₂ ++ answer_lines side result → m₄ ≡ m₃ ++ emitted_line side bytes
-    → bytes ≡ drop (length (output_to (other_side side) old)) (output_to (other_side side) new)
-    → m₄ ≡ out ++ step_lines old.terms k s (run old.terms old.steps)
-step_lines_are k s side result old new out m₁ m₂ m₃ m₄ bytes told h₁ h₂ h₃ h₄ is =
-    let whole : m₄ ≡ (((out ++ decimal k) ++ codes " ") ++ answer_lines side result) ++ emitted_line side bytes = cc in
-    let regrouped : (((out ++ decimal k) ++ codes " ") ++ answer_lines side result) ++ emitted_line side bytes ≡ out ++ (decimal k ++ codes " " ++ answer_lines side result ++ emitted_line side bytes) = simp append_assoc in
-    whole ∙ (regrouped ∙ ap (λ bs. out ++ bs) (ap (λ b. decimal k ++ codes " " ++ answer_lines side result ++ emitted_line side b) is ∙ told.text))
+-- the lines of a step, by what its side emitted in it
+pub step_lines_are : (k : ℕ) (s : Step) (side : Side) (result : DuoAnswer) (old new : DuoState) (out now bytes : List ℕ) → StepTold old.terms k s (run old.terms old.steps) side result old new
+    → now ≡ out ++ (decimal k ++ codes " " ++ answer_lines side result ++ emitted_line side bytes) → bytes ≡ drop (length (output_to (other_side side) old)) (output_to (other_side side) new)
+    → now ≡ out ++ step_lines old.terms k s (run old.terms old.steps)
+step_lines_are k s side result old new out now bytes told h is =
+    h ∙ ap (λ bs. out ++ bs) (ap (λ b. decimal k ++ codes " " ++ answer_lines side result ++ emitted_line side b) is ∙ told.text)

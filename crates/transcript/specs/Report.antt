@@ -1,5 +1,5 @@
 -- The report of a run.
-use Rattle.std.specs.Prelude.{ℕ, ◌+◌, List, [], ◌∷◌, ◌++◌, length, drop, filter, codes, Option, Some, None, Bool, true, false}
+use Rattle.std.specs.Prelude.{ℕ, ◌+◌, List, [], ◌∷◌, ◌++◌, length, drop, filter, codes, Option, Some, None}
 use Rattle.std.specs.List.{flat_map}
 use Rattle.std.specs.Fmt.{decimal}
 use Rattle.wire_base.specs.declared.frame.Version.{Version}
@@ -81,13 +81,14 @@ summary v side items =
     side_word side ++ codes " " ++ state_text (ended items) ++ line_feed
     ++ channel_lines v side A items ++ channel_lines v side B items
 
+-- the lines before the first step, with the handshakes of both ends
+abbrev pub opening_lines : Terms → List ℕ
+opening_lines terms = codes "report 1\n0 start\n" ++ emitted_line A (hello terms.version terms.nonce_a) ++ emitted_line B (hello terms.version terms.nonce_b)
+
+-- the lines behind the last step: how both sides stand in this world
+abbrev pub closing_lines : Terms → World → List ℕ
+closing_lines terms w = codes "state\n" ++ summary terms.version A w.a.items ++ summary terms.version B w.b.items ++ codes "end\n"
+
 -- the report of the run of the steps
 abbrev pub report_text : Terms → List Step → List ℕ
-report_text terms steps =
-    codes "report 1\n0 start\n"
-    ++ emitted_line A (hello terms.version terms.nonce_a) ++ emitted_line B (hello terms.version terms.nonce_b)
-    ++ steps_lines terms 1 start steps
-    ++ codes "state\n"
-    ++ summary terms.version A (run terms steps).a.items
-    ++ summary terms.version B (run terms steps).b.items
-    ++ codes "end\n"
+report_text terms steps = opening_lines terms ++ steps_lines terms 1 start steps ++ closing_lines terms (run terms steps)

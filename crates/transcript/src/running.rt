@@ -1,15 +1,15 @@
 //! Running a script and reporting its run.
 
-ghost use Rattle.std.specs.Prelude.{◌≡◌, ◌≤◌, ◌++◌, ◌∷◌, [], length, drop, false, OnOk, OnErr, IfOk};
-ghost use Rattle.mux_run.specs.Run.{run, side_of, start};
-ghost use Rattle.mux_run.specs.Safe.{IsSafeRun};
+ghost use Rattle.std.specs.Prelude.{◌≡◌, ◌≤◌, ◌++◌, [], length, drop, false, codes, OnOk, OnErr, IfOk};
+ghost use Rattle.std.specs.Fmt.{decimal};
+ghost use Rattle.mux_run.specs.Run.{run, side_of, start, terms_of};
 ghost use Rattle.duo_world.specs.Holding.{StandsForRun};
 ghost use Rattle.duo_world.specs.Stepping.{IsStepped};
 ghost use Rattle.mux_run.specs.declared.answers.DuoAnswer.{DuoAnswer};
 ghost use Rattle.std.specs.List.{flat_map};
-ghost use Rattle.transcript.specs.Words.{event_line};
-ghost use Rattle.transcript.specs.Ran.{HasMade, HasRun};
-ghost use Rattle.transcript.specs.Report.{answer_lines, step_lines, steps_lines, report_text};
+ghost use Rattle.transcript.specs.Words.{event_line, emitted_line};
+ghost use Rattle.transcript.specs.Ran.{HasRun};
+ghost use Rattle.transcript.specs.Report.{answer_lines, step_lines, steps_lines, opening_lines, closing_lines, report_text};
 
 use crate::summary::push_summary;
 use crate::words::{push_emitted_line, push_event_line, push_reply};
@@ -77,6 +77,23 @@ fn behind(bytes: &[u8], count: usize) -> &[u8]
     &bytes[count..]
 }
 
+/// Appends the lines of a step at a side, by what it answered and what the side emitted in it.
+fn push_told(
+    alloc: Global,
+    out: &mut Vec<u8>,
+    number: u64,
+    side: Side,
+    answer: &DuoAnswer,
+    emitted: &[u8],
+) -> Result<(), OutOfMemory>
+    ensures { OnOk result (out.new.items ≡ out.old.items ++ (decimal number ++ codes " " ++ answer_lines side answer.now ++ emitted_line side emitted.now)) }
+{
+    push_decimal(out, number)?;
+    push_text(out, " ")?;
+    push_answer(alloc, out, side, answer)?;
+    push_emitted_line(alloc, out, side, emitted)
+}
+
 /// Makes a step, and appends its lines: what it answered, its events, and what its side emitted.
 fn push_step(
     alloc: Global,
@@ -97,10 +114,14 @@ fn push_step(
     if let DuoAnswer::OutOfMemory = answer {
         return Err(OutOfMemory);
     }
-    push_decimal(out, number)?;
-    push_text(out, " ")?;
-    push_answer(alloc, out, side, &answer)?;
-    push_emitted_line(alloc, out, side, behind(duo.in_flight(other), before))?;
+    push_told(
+        alloc,
+        out,
+        number,
+        side,
+        &answer,
+        behind(duo.in_flight(other), before),
+    )?;
     Ok(())
 }
 
@@ -115,7 +136,7 @@ fn push_steps(
     requires works { duo.old.failed ≡ false }
     requires stands { StandsForRun duo.old }
     ensures text { OnOk result (out.new.items ≡ out.old.items ++ steps_lines duo.old.terms 1 start steps.items) }
-    ensures made { OnOk result (HasMade duo.old.terms steps.items duo.new) }
+    ensures made { OnOk result (HasRun duo.old.terms steps.items duo.new) }
 {
     let mut number = 0;
     for step in steps {
@@ -125,19 +146,38 @@ fn push_steps(
     Ok(())
 }
 
-fn push_report(alloc: Global, out: &mut Vec<u8>, script: Script) -> Result<Duo, OutOfMemory>
-    ensures text { IfOk result (λ d. out.new.items ≡ out.old.items ++ report_text d.terms script.steps) }
-    ensures ran { IfOk result (HasRun script.version script.nonces script.steps) }
+/// Appends the lines before the first step, with what both ends emitted at their start.
+fn push_opening(alloc: Global, out: &mut Vec<u8>, duo: &Duo) -> Result<(), OutOfMemory>
+    requires fresh { duo.now.steps ≡ [] }
+    requires stands { StandsForRun duo.now }
+    ensures { OnOk result (out.new.items ≡ out.old.items ++ opening_lines duo.now.terms) }
 {
-    let mut duo = Duo::start(alloc, script.version, script.nonces)?;
     push_text(out, "report 1\n0 start\n")?;
     push_emitted_line(alloc, out, Side::A, duo.in_flight(Side::B))?;
     push_emitted_line(alloc, out, Side::B, duo.in_flight(Side::A))?;
-    push_steps(alloc, out, &mut duo, script.steps.into_vec())?;
+    Ok(())
+}
+
+/// Appends the lines behind the last step: how both sides stand.
+fn push_closing(out: &mut Vec<u8>, duo: &Duo) -> Result<(), OutOfMemory>
+    requires { StandsForRun duo.now }
+    ensures { OnOk result (out.new.items ≡ out.old.items ++ closing_lines duo.now.terms (run duo.now.terms duo.now.steps)) }
+{
     push_text(out, "state\n")?;
     push_summary(out, Side::A, duo.end(Side::A))?;
     push_summary(out, Side::B, duo.end(Side::B))?;
     push_text(out, "end\n")?;
+    Ok(())
+}
+
+fn push_report(alloc: Global, out: &mut Vec<u8>, script: Script) -> Result<Duo, OutOfMemory>
+    ensures text { OnOk result (out.new.items ≡ out.old.items ++ report_text (terms_of script.version script.nonces) script.steps) }
+    ensures ran { IfOk result (HasRun (terms_of script.version script.nonces) script.steps) }
+{
+    let mut duo = Duo::start(alloc, script.version, script.nonces)?;
+    push_opening(alloc, out, &duo)?;
+    push_steps(alloc, out, &mut duo, script.steps.into_vec())?;
+    push_closing(out, &duo)?;
     Ok(duo)
 }
 
@@ -145,8 +185,8 @@ fn push_report(alloc: Global, out: &mut Vec<u8>, script: Script) -> Result<Duo, 
 ///
 /// The world that ran it is answered: its terms and its steps are the script's. Where memory runs out nothing is appended.
 pub fn report(alloc: Global, script: Script, out: &mut Vec<u8>) -> Result<Duo, OutOfMemory>
-    ensures text { IfOk result (λ d. out.new.items ≡ out.old.items ++ report_text d.terms script.steps) }
-    ensures ran { IfOk result (HasRun script.version script.nonces script.steps) }
+    ensures text { OnOk result (out.new.items ≡ out.old.items ++ report_text (terms_of script.version script.nonces) script.steps) }
+    ensures ran { IfOk result (HasRun (terms_of script.version script.nonces) script.steps) }
     ensures err { OnErr result (out.new.items ≡ out.old.items) }
 {
     let mut text = Vec::new(alloc);

@@ -2,7 +2,6 @@
 
 ghost use Rattle.std.specs.Prelude.{◌≡◌, ◌++◌, codes, OnOk};
 ghost use Rattle.std.specs.Fmt.{decimal};
-ghost use Rattle.hex.specs.Hex.{encode_lower};
 ghost use Rattle.transcript.specs.Words.{channel_text, cause_text, phase_text, refusal_text, reply_text, mux_event_text, event_text, event_line, emitted_line};
 
 use mux_items::{ChannelKey, MuxEvent, Phase};

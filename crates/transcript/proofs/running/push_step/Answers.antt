@@ -19,8 +19,7 @@ returns c =
     let before : c.in_flight-before.result.now ≡ output_to (other_side c.side_of-side.result) c.args.duo.now = c.in_flight-before.ensures.output ∙ ap (λ side. output_to side c.args.duo.now) c.other_side-other.ensures in
     let after : c.in_flight.result.now ≡ output_to (other_side c.side_of-side.result) c.step-answer.new.self = c.in_flight.ensures.output ∙ ap (λ side. output_to side c.step-answer.new.self) c.other_side-other.ensures in
     record {
-      text = step_lines_are c.args.number c.args.step c.side_of-side.result c.step-answer.result c.args.duo.now c.step-answer.new.self _ _ _ _ _ c.behind.result.now told
-          c.in_ok-push_decimal.ensures c.in_ok-push_text.ensures c.in_ok-push_answer.ensures c.in_ok-push_emitted_line.ensures
+      text = step_lines_are c.args.number c.args.step c.side_of-side.result c.step-answer.result c.args.duo.now c.step-answer.new.self c.args.out.now.items _ c.behind.result.now told c.in_ok-push_told.ensures
           (c.behind.ensures ∙ (ap (λ n. drop n c.in_flight.result.now) (ap length before) ∙ ap (drop (length (output_to (other_side c.side_of-side.result) c.args.duo.now))) after));
       made = (c.step-answer.result, made);
     }
