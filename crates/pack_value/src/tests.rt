@@ -4,9 +4,39 @@ use std::process::Abort;
 use std::test::Fail;
 use wire_base::{Blob, Datum, DatumList, Node, PairList, Place, Reason, Text, Whole};
 
-fn got(step: Step) -> Result<(Datum, usize), &'static str> {
-    match step {
-        Step::Got(value, len) => Ok((value, len)),
+/// What decoding answers, without the value: how many bytes spell one, or which of the bytes is refused and why.
+#[derive(Clone, Copy, Debug, PartialEq, Eq)]
+enum Outcome {
+    Spelled(usize),
+    Short,
+    Refused(u64, Reason),
+    OutOfMemory,
+}
+
+fn told(alloc: Global, bytes: &[u8]) -> Outcome {
+    match decode(alloc, bytes, Place(7)) {
+        Step::Got(_, len) => Outcome::Spelled(len),
+        Step::Short => Outcome::Short,
+        Step::Refused(at, reason) => Outcome::Refused(at.0.wrapping_sub(7), reason),
+        Step::OutOfMemory => Outcome::OutOfMemory,
+    }
+}
+
+/// Of fewer bytes than are known decoding answers Short, and of more so.
+fn tells_from(rt: &impl Abort, alloc: Global, bytes: &[u8], known: usize, answer: Outcome) {
+    for len in 0..=bytes.len() {
+        let wanted = if len < known { Outcome::Short } else { answer };
+        assert!(rt;
+            told(alloc, &bytes[..len]) == wanted,
+            "at {len} of {bytes:?}"
+        );
+    }
+}
+
+/// The value that the bytes, all of them, spell.
+fn value(alloc: Global, bytes: &[u8]) -> Result<Datum, &'static str> {
+    match decode(alloc, bytes, Place(0)) {
+        Step::Got(value, len) if len == bytes.len() => Ok(value),
         _ => Err("no value"),
     }
 }
@@ -17,9 +47,25 @@ fn encoded(alloc: Global, value: &Datum) -> Result<Vec<u8>, Fail> {
     Ok(out)
 }
 
+fn is_encoded(alloc: Global, value: &Datum, bytes: &[u8]) -> Result<bool, Fail> {
+    let out = encoded(alloc, value)?;
+    Ok(out.as_slice() == bytes)
+}
+
+/// Whether these are the shortest spelling of the value that the bytes spell.
+fn respells(alloc: Global, bytes: &[u8], shortest: &[u8]) -> Result<bool, Fail> {
+    let value = value(alloc, bytes)?;
+    is_encoded(alloc, &value, shortest)
+}
+
 fn whole(n: i128) -> Result<Datum, &'static str> {
     let node = Node::Whole(Whole::new(n).ok_or("out of range")?);
     Ok(Datum { node })
+}
+
+fn is_number(alloc: Global, n: i128, bytes: &[u8]) -> Result<bool, Fail> {
+    let value = whole(n)?;
+    is_encoded(alloc, &value, bytes)
 }
 
 #[test]
@@ -71,30 +117,9 @@ fn numbers_at_the_edges(rt: HostRuntime) -> Result<(), Fail> {
         ),
     ];
     for (n, bytes) in table {
-        assert_eq!(rt;
-            encoded(rt.alloc(), &whole(n)?)?.as_slice(),
-            bytes,
-            "of {n}"
-        );
+        assert!(rt; is_number(rt.alloc(), n, bytes)?, "of {n}");
     }
     Ok(())
-}
-
-/// All of the bytes spell a value, and fewer spell none; these are its shortest spelling.
-fn respells(rt: &impl Abort, alloc: Global, bytes: &[u8], shortest: &[u8]) -> Result<(), Fail> {
-    let (value, len) = got(decode(alloc, bytes, Place(0)))?;
-    assert_eq!(rt; len, bytes.len(), "at {bytes:?}");
-    let again = encoded(alloc, &value)?;
-    assert_eq!(rt; again.as_slice(), shortest, "at {bytes:?}");
-    for cut in 0..bytes.len() {
-        is_short(rt, alloc, &bytes[..cut]);
-    }
-    Ok(())
-}
-
-fn is_short(rt: &impl Abort, alloc: Global, bytes: &[u8]) {
-    let step = decode(alloc, bytes, Place(0));
-    assert!(rt; matches!(step, Step::Short), "at {} bytes", bytes.len());
 }
 
 #[test]
@@ -166,7 +191,9 @@ fn every_width_is_read(rt: HostRuntime) -> Result<(), Fail> {
         ),
     ];
     for (bytes, shortest) in table {
-        respells(&rt, rt.alloc(), bytes, shortest)?;
+        let len = bytes.len();
+        tells_from(&rt, rt.alloc(), bytes, len, Outcome::Spelled(len));
+        assert!(rt; respells(rt.alloc(), bytes, shortest)?, "at {bytes:?}");
     }
     Ok(())
 }
@@ -182,11 +209,13 @@ fn repeated(alloc: Global, front: &[u8], piece: &[u8], n: usize) -> Result<Vec<u
 
 /// The bytes are the shortest spelling of a value.
 fn reads_back(rt: &impl Abort, alloc: Global, bytes: &[u8]) -> Result<(), Fail> {
-    let (value, len) = got(decode(alloc, bytes, Place(0)))?;
-    assert_eq!(rt; len, bytes.len());
-    let again = encoded(alloc, &value)?;
-    assert!(rt; again.as_slice() == bytes, "{len} bytes");
+    assert!(rt; respells(alloc, bytes, bytes)?, "{} bytes", bytes.len());
     Ok(())
+}
+
+fn half_is_short(rt: &impl Abort, alloc: Global, bytes: &[u8]) {
+    let half = &bytes[..bytes.len() / 2];
+    assert!(rt; told(alloc, half) == Outcome::Short, "{} bytes", half.len());
 }
 
 #[test]
@@ -218,34 +247,7 @@ fn lengths_at_the_edges(rt: HostRuntime) -> Result<(), Fail> {
     for (head, piece, n) in table {
         let bytes = repeated(rt.alloc(), head, piece, n)?;
         reads_back(&rt, rt.alloc(), bytes.as_slice())?;
-        if n > 0 {
-            is_short(&rt, rt.alloc(), &bytes[..bytes.len() / 2]);
-        }
-    }
-    Ok(())
-}
-
-/// The bytes are refused so from this length on, whatever follows, and are short before it.
-fn refused_from(
-    rt: &impl Abort,
-    alloc: Global,
-    bytes: &[u8],
-    known: usize,
-    place: u64,
-    reason: Reason,
-) -> Result<(), Fail> {
-    let mut all = bytes.to_vec(alloc)?;
-    all.extend_from_slice(&[0xc1, 0x00, 0xff])?;
-    for len in 0..=all.len() {
-        match decode(alloc, &all[..len], Place(0)) {
-            Step::Short => assert!(rt; len < known, "short at {len} of {bytes:?}"),
-            Step::Refused(at, why) => {
-                assert!(rt; known <= len, "refused at {len} of {bytes:?}");
-                assert_eq!(rt; at, Place(place), "at {len} of {bytes:?}");
-                assert_eq!(rt; why, reason, "at {len} of {bytes:?}");
-            }
-            step => assert!(rt; false, "{step:?} at {len} of {bytes:?}"),
-        }
+        half_is_short(&rt, rt.alloc(), bytes.as_slice());
     }
     Ok(())
 }
@@ -297,19 +299,27 @@ fn refusals_come_when_they_are_known(rt: HostRuntime) -> Result<(), Fail> {
         (&[0x81, 0xdb, 0x01, 0x00, 0x00, 0x01], 6, 1, Reason::TooLong),
     ];
     for (bytes, known, place, reason) in table {
-        refused_from(&rt, rt.alloc(), bytes, known, place, reason)?;
+        // Whatever follows.
+        let all = repeated(rt.alloc(), bytes, &[0xc1, 0x00, 0xff], 1)?;
+        tells_from(
+            &rt,
+            rt.alloc(),
+            all.as_slice(),
+            known,
+            Outcome::Refused(place, reason),
+        );
     }
     Ok(())
 }
 
-fn is_refused(rt: &impl Abort, alloc: Global, bytes: &[u8], place: u64, reason: Reason) {
-    match decode(alloc, bytes, Place(7)) {
-        Step::Refused(at, why) => {
-            assert_eq!(rt; at, Place(place));
-            assert_eq!(rt; why, reason, "at {place}");
-        }
-        step => assert!(rt; false, "{step:?}"),
+/// With each first byte of an array and of a map behind these bytes, that byte is refused at this place.
+fn nest_too_deep(rt: &impl Abort, alloc: Global, open: &[u8], place: u64) -> Result<(), Fail> {
+    for last in [0x90, 0x91, 0x80, 0x8f, 0xdc, 0xdd, 0xde, 0xdf] {
+        let deep = repeated(alloc, open, &[last], 1)?;
+        let refused = Outcome::Refused(place, Reason::TooDeep);
+        assert!(rt; told(alloc, deep.as_slice()) == refused, "{last}");
     }
+    Ok(())
 }
 
 #[test]
@@ -322,35 +332,39 @@ fn the_128th_level_is_refused_by_its_first_byte(rt: HostRuntime) -> Result<(), F
     ];
     for (front, piece, n, len) in table {
         let open = repeated(rt.alloc(), front, piece, n)?;
-        is_short(&rt, rt.alloc(), open.as_slice());
-        let whole = repeated(rt.alloc(), open.as_slice(), b"\xc0", 1)?;
-        reads_back(&rt, rt.alloc(), whole.as_slice())?;
-        for last in [0x90, 0x91, 0x80, 0x8f, 0xdc, 0xdd, 0xde, 0xdf] {
-            let deep = repeated(rt.alloc(), open.as_slice(), &[last], 1)?;
-            is_refused(&rt, rt.alloc(), deep.as_slice(), 7 + len, Reason::TooDeep);
-        }
+        assert!(rt;
+            told(rt.alloc(), open.as_slice()) == Outcome::Short,
+            "{len}"
+        );
+        let closed = repeated(rt.alloc(), open.as_slice(), b"\xc0", 1)?;
+        reads_back(&rt, rt.alloc(), closed.as_slice())?;
+        nest_too_deep(&rt, rt.alloc(), open.as_slice(), len)?;
     }
     Ok(())
 }
 
 #[test]
 fn an_array_in_a_keys_place(rt: HostRuntime) -> Result<(), Fail> {
-    for (n, place, reason) in [(125, 133, Reason::KeyNotText), (126, 134, Reason::TooDeep)] {
+    for (n, place, reason) in [(125, 126, Reason::KeyNotText), (126, 127, Reason::TooDeep)] {
         let open = repeated(rt.alloc(), b"", b"\x91", n)?;
         let bytes = repeated(rt.alloc(), open.as_slice(), b"\x81\xdd", 1)?;
-        is_refused(&rt, rt.alloc(), bytes.as_slice(), place, reason);
+        let refused = Outcome::Refused(place, reason);
+        assert!(rt; told(rt.alloc(), bytes.as_slice()) == refused, "{n}");
     }
     Ok(())
+}
+
+fn list_of_one(alloc: Global, value: Datum) -> Result<Datum, Fail> {
+    let mut items = DatumList::new(alloc);
+    items.push(value)?;
+    let node = Node::Items(items);
+    Ok(Datum { node })
 }
 
 fn nested(alloc: Global, inner: Datum, levels: usize) -> Result<Datum, Fail> {
     let mut value = inner;
     for _ in 0..levels {
-        let mut items = DatumList::new(alloc);
-        items.push(value)?;
-        value = Datum {
-            node: Node::Items(items),
-        };
+        value = list_of_one(alloc, value)?;
     }
     Ok(value)
 }
@@ -361,24 +375,36 @@ fn blob(alloc: Global, len: usize) -> Result<Datum, Fail> {
     Ok(Datum { node })
 }
 
-/// The value is refused so, and nothing is appended.
-fn refuses(rt: &impl Abort, alloc: Global, value: &Datum, fault: EncodeFault) -> Result<(), Fail> {
+/// Why the value isn't written behind these bytes, and what stands there then.
+fn appended(alloc: Global, value: &Datum) -> Result<(Option<EncodeFault>, Vec<u8>), Fail> {
     let mut out = b"old".to_vec(alloc)?;
-    assert_eq!(rt; encode(value, &mut out), Err(fault));
-    assert_eq!(rt; out.as_slice(), b"old".as_slice());
-    Ok(())
+    let fault = encode(value, &mut out).err();
+    Ok((fault, out))
+}
+
+fn appends(
+    alloc: Global,
+    value: &Datum,
+    fault: Option<EncodeFault>,
+    bytes: &[u8],
+) -> Result<bool, Fail> {
+    let (why, out) = appended(alloc, value)?;
+    Ok(why == fault && out.as_slice() == bytes)
 }
 
 #[test]
 fn the_greatest_length_is_taken(rt: HostRuntime) -> Result<(), Fail> {
     let longest = blob(rt.alloc(), 16_777_216)?;
     let bytes = encoded(rt.alloc(), &longest)?;
-    assert!(rt;
-        bytes
-            .as_slice()
-            .starts_with(&[0xc6, 0x01, 0x00, 0x00, 0x00])
-    );
+    let head = [0xc6, 0x01, 0x00, 0x00, 0x00];
+    assert!(rt; bytes.as_slice().starts_with(&head));
     reads_back(&rt, rt.alloc(), bytes.as_slice())
+}
+
+/// The value is refused so, and nothing is appended.
+fn refuses(rt: &impl Abort, alloc: Global, value: &Datum, fault: EncodeFault) -> Result<(), Fail> {
+    assert!(rt; appends(alloc, value, Some(fault), b"old")?, "{fault:?}");
+    Ok(())
 }
 
 #[test]
@@ -391,16 +417,18 @@ fn values_past_the_limits_are_refused(rt: HostRuntime) -> Result<(), Fail> {
     refuses(&rt, rt.alloc(), &both, EncodeFault::TooDeep)
 }
 
+fn map(alloc: Global, key: &str, value: Datum) -> Result<Datum, Fail> {
+    let mut pairs = PairList::new(alloc);
+    pairs.push((Text::from_str(alloc, key)?, value))?;
+    let node = Node::Pairs(pairs);
+    Ok(Datum { node })
+}
+
 #[test]
 fn a_map_is_appended(rt: HostRuntime) -> Result<(), Fail> {
-    let mut pairs = PairList::new(rt.alloc());
-    pairs.push((Text::from_str(rt.alloc(), "é")?, whole(-33)?))?;
-    let map = Datum {
-        node: Node::Pairs(pairs),
-    };
-    let mut out = b"old".to_vec(rt.alloc())?;
-    encode(&map, &mut out)?;
-    assert_eq!(rt; out.as_slice(), b"old\x81\xa2\xc3\xa9\xd0\xdf".as_slice());
+    let map = map(rt.alloc(), "é", whole(-33)?)?;
+    let bytes = b"old\x81\xa2\xc3\xa9\xd0\xdf";
+    assert!(rt; appends(rt.alloc(), &map, None, bytes)?);
     Ok(())
 }
 
