@@ -1,3 +1,4 @@
 pub mod Readings
+pub mod Spellings
 pub mod Lengths
 pub mod Sizes

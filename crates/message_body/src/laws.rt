@@ -1,12 +1,16 @@
 //! What holds of bodies, of all bytes and every message.
 
-ghost use Rattle.std.specs.Prelude.{◌≡◌, ◌↔◌, ℕ, List, Ok, Err};
+ghost use Rattle.std.specs.Prelude.{◌≡◌, ◌↔◌, ◌<◌, ℕ, List, length, Ok, Err};
 ghost use Rattle.wire_base.specs.Tree.{Tree};
-ghost use Rattle.wire_base.specs.declared.reason.Reason.TheVariants.{NotJson, Float};
+ghost use Rattle.wire_base.specs.declared.reason.Reason.{Reason};
+ghost use Rattle.wire_base.specs.declared.reason.Reason.TheVariants.{NotJson, Float, NotOneValue};
 ghost use Rattle.json_value.specs.Reading.{IsReading, HasNoReading, HasFloat};
+ghost use Rattle.pack_value.specs.Answer.{IsAtFront, IsUndecided};
+ghost use Rattle.pack_value.specs.Spelling.{IsSpelling};
+ghost use Rattle.pack_value.specs.Tokens.{IsRefused};
 ghost use Rattle.rpc_items.specs.Fitting.{IsFair};
 ghost use Rattle.message_body.specs.declared.encoding.Encoding.{Encoding};
-ghost use Rattle.message_body.specs.Found.{json_in};
+ghost use Rattle.message_body.specs.Found.{json_in, pack_in};
 ghost use Rattle.message_body.specs.Written.{encoder};
 
 /// What is found in bytes as JSON, by the relations that say what the crate `serde_json` reads.
@@ -14,6 +18,14 @@ pub fn readings_are_found()
     ensures value { (b : List ℕ) (t : Tree) → (json_in b ≡ Ok t) ↔ IsReading b t }
     ensures none { (b : List ℕ) → (json_in b ≡ Err NotJson) ↔ HasNoReading b }
     ensures float { (b : List ℕ) → (json_in b ≡ Err Float) ↔ HasFloat b }
+{}
+
+/// What is found in bytes as MessagePack, by spellings and by the rules on tokens. One of the four is so of any bytes.
+pub fn spellings_are_found()
+    ensures value { (b : List ℕ) (t : Tree) → (pack_in b ≡ Ok t) ↔ IsSpelling t b }
+    ensures broken { (b : List ℕ) (k : ℕ) (r : Reason) → IsRefused b k r → pack_in b ≡ Err (k, r) }
+    ensures shorter { (b : List ℕ) → IsUndecided b → pack_in b ≡ Err (length b, NotOneValue) }
+    ensures longer { (b : List ℕ) (t : Tree) (n : ℕ) → IsAtFront b t n → n < length b → pack_in b ≡ Err (n, NotOneValue) }
 {}
 
 /// Each encoding leaves room for the id of a response, and for the answers that a connection gives by itself.
