@@ -1,6 +1,6 @@
 //! Worked methods, with their parameters in MessagePack.
 
-use crate::{Meaning, Params, is_reserved, is_reserved_value, meaning_of};
+use crate::{Params, is_reserved, is_reserved_value, meaning_of};
 use pack_value::{Step, decode};
 use std::alloc::Global;
 use std::test::Fail;
@@ -16,30 +16,19 @@ fn value(alloc: Global, bytes: &[u8]) -> Result<Datum, Fail> {
     }
 }
 
-fn params(alloc: Global, bytes: &[u8]) -> Result<Params, Fail> {
-    if bytes.is_empty() {
-        return Ok(Params::Absent);
-    }
-    match value(alloc, bytes)?.node {
+fn listed_or_named(value: Datum) -> Result<Params, Fail> {
+    match value.node {
         Node::Items(values) => Ok(Params::List(values)),
         Node::Pairs(pairs) => Ok(Params::Named(pairs)),
         _ => Err(Fail::new("no parameters")),
     }
 }
 
-fn shown(alloc: Global, meaning: &Meaning) -> Result<String, Fail> {
-    match meaning {
-        Meaning::Serves => Ok(format!(in alloc; "serves")?),
-        Meaning::Cancels(id) => Ok(format!(in alloc; "cancels {id:?}")?),
-        Meaning::Reports(token, value) => Ok(format!(in alloc; "reports {token:?} {value:?}")?),
-        Meaning::Turns(token) => Ok(format!(in alloc; "turns {token:?}")?),
-        Meaning::Aborts(token) => Ok(format!(in alloc; "aborts {token:?}")?),
-        Meaning::Releases(key) => Ok(format!(in alloc; "releases {} {}", key.number, key.own)?),
-        Meaning::Calls(handle, method) => {
-            Ok(format!(in alloc; "calls {handle} {}", method.as_str())?)
-        }
-        Meaning::Mistakes => Ok(format!(in alloc; "mistakes")?),
-        Meaning::Unknown => Ok(format!(in alloc; "unknown")?),
+fn params(alloc: Global, bytes: &[u8]) -> Result<Params, Fail> {
+    if bytes.is_empty() {
+        Ok(Params::Absent)
+    } else {
+        listed_or_named(value(alloc, bytes)?)
     }
 }
 
@@ -47,7 +36,7 @@ fn shown(alloc: Global, meaning: &Meaning) -> Result<String, Fail> {
 fn told(alloc: Global, method: &str, params: &Params) -> Result<String, Fail> {
     let method = Text::from_str(alloc, method)?;
     let meaning = meaning_of(alloc, &method, params)?;
-    shown(alloc, &meaning)
+    Ok(format!(in alloc; "{meaning:?}")?)
 }
 
 /// The first row that asks for something else, and what.
@@ -65,15 +54,15 @@ fn wrong(alloc: Global, rows: &[Row]) -> Result<Option<String>, Fail> {
 #[test]
 fn methods_are_known_whole(rt: HostRuntime) -> Result<(), Fail> {
     let rows: [Row; 9] = [
-        ("", b"", "serves"),
-        ("$", b"", "serves"),
-        ("$work", b"", "serves"),
-        ("work/$/cancelRequest", b"\x91\x07", "serves"),
-        ("$/", b"", "unknown"),
-        ("$/work", b"", "unknown"),
-        ("$/cancelRequests", b"\x91\x07", "unknown"),
-        ("$/cancelrequest", b"\x91\x07", "unknown"),
-        ("$/enumerator", b"\x91\x07", "unknown"),
+        ("", b"", "Serves"),
+        ("$", b"", "Serves"),
+        ("$work", b"", "Serves"),
+        ("work/$/cancelRequest", b"\x91\x07", "Serves"),
+        ("$/", b"", "Unknown"),
+        ("$/work", b"", "Unknown"),
+        ("$/cancelRequests", b"\x91\x07", "Unknown"),
+        ("$/cancelrequest", b"\x91\x07", "Unknown"),
+        ("$/enumerator", b"\x91\x07", "Unknown"),
     ];
     assert_eq!(rt; wrong(rt.alloc(), &rows)?, None);
     Ok(())
@@ -82,27 +71,31 @@ fn methods_are_known_whole(rt: HostRuntime) -> Result<(), Fail> {
 #[test]
 fn one_argument_is_an_id(rt: HostRuntime) -> Result<(), Fail> {
     let rows: [Row; 13] = [
-        ("$/cancelRequest", b"\x81\xa2id\x07", "cancels Number(7)"),
-        ("$/cancelRequest", b"\x91\xff", "cancels Number(-1)"),
+        ("$/cancelRequest", b"\x81\xa2id\x07", "Cancels(Number(7))"),
+        ("$/cancelRequest", b"\x91\xff", "Cancels(Number(-1))"),
         (
             "$/cancelRequest",
             b"\x91\xa1x",
-            "cancels Name(Text { inner: \"x\" })",
+            "Cancels(Name(Text { inner: \"x\" }))",
         ),
         (
             "$/cancelRequest",
             b"\x83\xa2id\x07\xa2id\x08\xa5other\xc0",
-            "cancels Number(8)",
+            "Cancels(Number(8))",
         ),
-        ("$/cancelRequest", b"", "mistakes"),
-        ("$/cancelRequest", b"\x90", "mistakes"),
-        ("$/cancelRequest", b"\x92\x01\x02", "mistakes"),
-        ("$/cancelRequest", b"\x91\xc0", "mistakes"),
-        ("$/cancelRequest", b"\x81\xa5token\x07", "mistakes"),
-        ("$/enumerator/next", b"\x81\xa5token\x03", "turns Number(3)"),
-        ("$/enumerator/next", b"\x81\xa2id\x03", "mistakes"),
-        ("$/enumerator/abort", b"\x91\x03", "aborts Number(3)"),
-        ("$/enumerator/abort", b"\x91\xc3", "mistakes"),
+        ("$/cancelRequest", b"", "Mistakes"),
+        ("$/cancelRequest", b"\x90", "Mistakes"),
+        ("$/cancelRequest", b"\x92\x01\x02", "Mistakes"),
+        ("$/cancelRequest", b"\x91\xc0", "Mistakes"),
+        ("$/cancelRequest", b"\x81\xa5token\x07", "Mistakes"),
+        (
+            "$/enumerator/next",
+            b"\x81\xa5token\x03",
+            "Turns(Number(3))",
+        ),
+        ("$/enumerator/next", b"\x81\xa2id\x03", "Mistakes"),
+        ("$/enumerator/abort", b"\x91\x03", "Aborts(Number(3))"),
+        ("$/enumerator/abort", b"\x91\xc3", "Mistakes"),
     ];
     assert_eq!(rt; wrong(rt.alloc(), &rows)?, None);
     Ok(())
@@ -114,18 +107,18 @@ fn reports_have_a_token_and_a_value(rt: HostRuntime) -> Result<(), Fail> {
         (
             "$/progress",
             b"\x82\xa5value\xc0\xa5token\x07",
-            "reports Number(7) Datum { node: Nil }",
+            "Reports(Number(7), Datum { node: Nil })",
         ),
         (
             "$/progress",
             b"\x92\x07\xc3",
-            "reports Number(7) Datum { node: Flag(true) }",
+            "Reports(Number(7), Datum { node: Flag(true) })",
         ),
-        ("$/progress", b"\x81\xa5token\x07", "mistakes"),
-        ("$/progress", b"\x81\xa5value\x07", "mistakes"),
-        ("$/progress", b"\x91\x07", "mistakes"),
-        ("$/progress", b"\x93\x07\xc3\xc3", "mistakes"),
-        ("$/progress", b"\x92\xc3\xc3", "mistakes"),
+        ("$/progress", b"\x81\xa5token\x07", "Mistakes"),
+        ("$/progress", b"\x81\xa5value\x07", "Mistakes"),
+        ("$/progress", b"\x91\x07", "Mistakes"),
+        ("$/progress", b"\x93\x07\xc3\xc3", "Mistakes"),
+        ("$/progress", b"\x92\xc3\xc3", "Mistakes"),
     ];
     assert_eq!(rt; wrong(rt.alloc(), &rows)?, None);
     Ok(())
@@ -138,31 +131,31 @@ fn releases_name_a_handle(rt: HostRuntime) -> Result<(), Fail> {
         (
             "$/releaseMarshaledObject",
             b"\x82\xa6handle\x03\xadownedBySender\xc3",
-            "releases 3 false",
+            "Releases(HandleKey { number: 3, own: false })",
         ),
         (
             "$/releaseMarshaledObject",
             b"\x83\xadownedBySender\xc2\xa6handle\x03\xa6handle\x04",
-            "releases 4 true",
+            "Releases(HandleKey { number: 4, own: true })",
         ),
         (
             "$/releaseMarshaledObject",
             b"\x92\xcf\x7f\xff\xff\xff\xff\xff\xff\xff\xc3",
-            "releases 9223372036854775807 false",
+            "Releases(HandleKey { number: 9223372036854775807, own: false })",
         ),
         (
             "$/releaseMarshaledObject",
             b"\x92\xcf\x80\x00\x00\x00\x00\x00\x00\x00\xc3",
-            "mistakes",
+            "Mistakes",
         ),
-        ("$/releaseMarshaledObject", b"\x92\xff\xc3", "mistakes"),
-        ("$/releaseMarshaledObject", b"\x92\xa13\xc3", "mistakes"),
-        ("$/releaseMarshaledObject", b"\x92\x03\x01", "mistakes"),
-        ("$/releaseMarshaledObject", b"\x91\x03", "mistakes"),
+        ("$/releaseMarshaledObject", b"\x92\xff\xc3", "Mistakes"),
+        ("$/releaseMarshaledObject", b"\x92\xa13\xc3", "Mistakes"),
+        ("$/releaseMarshaledObject", b"\x92\x03\x01", "Mistakes"),
+        ("$/releaseMarshaledObject", b"\x91\x03", "Mistakes"),
         (
             "$/releaseMarshaledObject",
             b"\x81\xa6handle\x03",
-            "mistakes",
+            "Mistakes",
         ),
     ];
     assert_eq!(rt; wrong(rt.alloc(), &rows)?, None);
@@ -172,21 +165,29 @@ fn releases_name_a_handle(rt: HostRuntime) -> Result<(), Fail> {
 #[test]
 fn calls_name_a_handle(rt: HostRuntime) -> Result<(), Fail> {
     let rows: [Row; 11] = [
-        ("$/invokeProxy/1/a", b"", "calls 1 a"),
-        ("$/invokeProxy/12/a/b", b"\x91\x07", "calls 12 a/b"),
-        ("$/invokeProxy/12/", b"", "calls 12 "),
-        ("$/invokeProxy/0000000000000000012/a", b"", "calls 12 a"),
+        ("$/invokeProxy/1/a", b"", "Calls(1, Text { inner: \"a\" })"),
+        (
+            "$/invokeProxy/12/a/b",
+            b"\x91\x07",
+            "Calls(12, Text { inner: \"a/b\" })",
+        ),
+        ("$/invokeProxy/12/", b"", "Calls(12, Text { inner: \"\" })"),
+        (
+            "$/invokeProxy/0000000000000000012/a",
+            b"",
+            "Calls(12, Text { inner: \"a\" })",
+        ),
         (
             "$/invokeProxy/9999999999999999999/\u{fc}",
             b"",
-            "calls 9999999999999999999 \u{fc}",
+            "Calls(9999999999999999999, Text { inner: \"\u{fc}\" })",
         ),
-        ("$/invokeProxy/00000000000000000012/a", b"", "unknown"),
-        ("$/invokeProxy//a", b"", "unknown"),
-        ("$/invokeProxy/12", b"", "unknown"),
-        ("$/invokeProxy/+1/a", b"", "unknown"),
-        ("$/invokeProxy/1a/b", b"", "unknown"),
-        ("$/invokeProxy", b"", "unknown"),
+        ("$/invokeProxy/00000000000000000012/a", b"", "Unknown"),
+        ("$/invokeProxy//a", b"", "Unknown"),
+        ("$/invokeProxy/12", b"", "Unknown"),
+        ("$/invokeProxy/+1/a", b"", "Unknown"),
+        ("$/invokeProxy/1a/b", b"", "Unknown"),
+        ("$/invokeProxy", b"", "Unknown"),
     ];
     assert_eq!(rt; wrong(rt.alloc(), &rows)?, None);
     Ok(())
