@@ -1,9 +1,10 @@
 //! Worked scripts with their reports.
 
+use crate::tests::{REPLAY, sink, source, texts};
 use crate::{Status, run_plain};
 use std::alloc::Global;
 use std::test::Fail;
-use wire_base::{Blob, Calls, MemSink, MemSource, Text};
+use wire_base::{MemSink, MemSource, Text};
 
 /// Nothing happens.
 const EMPTY: &str = "script 1
@@ -293,15 +294,18 @@ end
 
 /// The report of a script; nothing where the status isn't `Done`.
 fn reported(alloc: Global, script: &[u8]) -> Result<Vec<u8>, Fail> {
-    let mut words = Vec::new(alloc);
-    words.push(Text::from_str(alloc, "muxrpc")?)?;
-    words.push(Text::from_str(alloc, "replay")?)?;
-    let mut input = MemSource::new(Blob::from_bytes(alloc, script)?, Calls::new(alloc));
-    let mut output = MemSink::new(alloc, Calls::new(alloc));
-    match run_plain(alloc, &words, &mut input, &mut output) {
-        Status::Done => Ok(Vec::from_slice(alloc, output.given())?),
-        _ => Ok(Vec::new(alloc)),
+    let words = texts(alloc, REPLAY)?;
+    let mut input = source(alloc, script, &[])?;
+    let mut output = sink(alloc, &[])?;
+    if is_done(alloc, &words, &mut input, &mut output) {
+        Ok(Vec::from_slice(alloc, output.given())?)
+    } else {
+        Ok(Vec::new(alloc))
     }
+}
+
+fn is_done(alloc: Global, words: &[Text], input: &mut MemSource, output: &mut MemSink) -> bool {
+    run_plain(alloc, words, input, output) == Status::Done
 }
 
 /// The number of the first script whose report is another.
