@@ -131,6 +131,7 @@ delivered_to w n x y =
 abbrev pub stopped : Cause → RunSide → RunSide
 stopped cause x = if runs x then record { items = End cause ∷ x.items; delivered = x.delivered } else x
 
+-- a side into which the stream ended
 abbrev pub ended_side : RunSide → RunSide
 ended_side x = stopped cause.InputEnded x
 

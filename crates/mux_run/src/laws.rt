@@ -1,6 +1,6 @@
 //! Laws of every run.
 
-ghost use Rattle.std.specs.Prelude.{◌≡◌, ◌∷◌, List, ℕ, true, None};
+ghost use Rattle.std.specs.Prelude.{◌≡◌, ◌∷◌, List, ℕ, false, true, None};
 ghost use Rattle.wire_base.specs.declared.frame.Version.{Version};
 ghost use Rattle.wire_base.specs.declared.state.Cause.{Cause};
 ghost use Rattle.mux_items.specs.declared.call.Call.{Call};
@@ -9,11 +9,11 @@ ghost use Rattle.mux_items.specs.Bodies.{ChannelFrame, flip};
 ghost use Rattle.mux_items.specs.Calls.{called};
 ghost use Rattle.mux_items.specs.Items.{Item, Hello, End, is_running};
 ghost use Rattle.mux_items.specs.Applying.{IsGreeting, IsTaken, apply_frame};
-ghost use Rattle.mux_run.specs.Run.{Terms};
+ghost use Rattle.mux_run.specs.Run.{RunSide, SideTerms, Terms, runs, side_after};
 ghost use Rattle.mux_run.specs.Between.{ahead, Between};
 ghost use Rattle.mux_run.specs.Moments.{IsMomentOf};
 ghost use Rattle.mux_run.specs.Safe.{IsSafeRun};
-ghost use Rattle.mux_run.specs.Spending.{RunStep, IsMomentThrough, IsSafeThrough};
+ghost use Rattle.mux_run.specs.Spending.{RunStep, IsMomentThrough, IsSafeThrough, is_read};
 ghost use Rattle.mux_run.specs.declared.steps.Step.{Step};
 
 /// Every run is safe, also one in which an end is spent.
@@ -34,4 +34,9 @@ pub fn moments_are_between()
         → Between v x y → IsTaken v (flip f).key f.body x → ahead v x y ≡ f ∷ rest
         → Between v (apply_frame v place (flip f).key f.body x) y × (ahead v (apply_frame v place (flip f).key f.body x) y ≡ rest) }
     ensures end { (v : Version) (cause : Cause) (x y : List Item) → Between v x y → is_running x ≡ true → Between v (End cause ∷ x) y }
+{}
+
+/// A side that was spent, or that ended in another way, takes no step but reads: each other one leaves it as it is.
+pub fn an_ended_side_stays()
+    ensures { (w : SideTerms) (s : Step) (x y : RunSide) → runs x ≡ false → is_read s ≡ false → side_after w s x y ≡ x }
 {}

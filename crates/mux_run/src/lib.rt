@@ -6,7 +6,7 @@ mod laws;
 mod steps;
 
 pub use answers::{DuoAnswer, EndEvent, EventList, Reply};
-pub use laws::{every_run_is_safe, moments_are_between};
+pub use laws::{an_ended_side_stays, every_run_is_safe, moments_are_between};
 pub use mux_items::Call;
 pub use steps::{Side, Step, StepList};
 
