@@ -1,5 +1,5 @@
 -- Reading values from left to right, with the first fault that is met.
-use Rattle.std.specs.Prelude.{◌≡◌, ℕ, zero, suc, List, [], ◌∷◌, length, drop, Ok, Err, Option, Some, None, nat_lt, ◌==◌, if◌then◌else◌}
+use Rattle.std.specs.Prelude.{ℕ, zero, suc, List, [], ◌∷◌, length, drop, Ok, Err, Option, Some, None, nat_lt, ◌==◌, if◌then◌else◌}
 use Rattle.std.specs.Str.{is_utf8}
 use Rattle.wire_base.specs.Tree.{Tree, nil, flag, whole, words, bytes, items, pairs, trees_of, pairs_of}
 use Rattle.wire_base.specs.declared.reason.Reason.{Reason}

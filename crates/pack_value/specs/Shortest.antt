@@ -1,5 +1,5 @@
 -- The shortest spelling of a value (MessagePack specification, "Formats"), and which values have one.
-use Rattle.std.specs.Prelude.{◌≡◌, ℕ, ◌≤◌, List, [], ◌∷◌, ◌++◌, length, take, Bool, true, false, ◌&&◌, nat_le, IsUtf8}
+use Rattle.std.specs.Prelude.{ℕ, ◌≤◌, List, [], ◌∷◌, ◌++◌, length, Bool, true, false, ◌&&◌, nat_le, IsUtf8}
 use Rattle.wire_base.specs.Tree.{Tree, nil, flag, whole, words, bytes, items, pairs, Trees, no_items, item, Pairs, no_pairs, pair}
 use Rattle.wire_base.specs.Whole.{IsWhole}
 use Rattle.wire_base.specs.Shortest.{whole_text, str_head, bin_head, array_head, map_head}

@@ -22,14 +22,18 @@ fn told(alloc: Global, bytes: &[u8]) -> Outcome {
     }
 }
 
+fn tells(rt: &impl Abort, alloc: Global, bytes: &[u8], outcome: Outcome) {
+    assert!(rt; told(alloc, bytes) == outcome, "{outcome:?} of {bytes:?}");
+}
+
+fn due(len: usize, known: usize, outcome: Outcome) -> Outcome {
+    if len < known { Outcome::Short } else { outcome }
+}
+
 /// Of fewer bytes than are known decoding answers Short, and of more so.
-fn tells_from(rt: &impl Abort, alloc: Global, bytes: &[u8], known: usize, answer: Outcome) {
+fn tells_from(rt: &impl Abort, alloc: Global, bytes: &[u8], known: usize, outcome: Outcome) {
     for len in 0..=bytes.len() {
-        let wanted = if len < known { Outcome::Short } else { answer };
-        assert!(rt;
-            told(alloc, &bytes[..len]) == wanted,
-            "at {len} of {bytes:?}"
-        );
+        tells(rt, alloc, &bytes[..len], due(len, known, outcome));
     }
 }
 
@@ -213,9 +217,22 @@ fn reads_back(rt: &impl Abort, alloc: Global, bytes: &[u8]) -> Result<(), Fail> 
     Ok(())
 }
 
-fn half_is_short(rt: &impl Abort, alloc: Global, bytes: &[u8]) {
-    let half = &bytes[..bytes.len() / 2];
-    assert!(rt; told(alloc, half) == Outcome::Short, "{} bytes", half.len());
+/// A head with so many pieces behind it reads back, and half of the bytes are short.
+fn is_edge(
+    rt: &impl Abort,
+    alloc: Global,
+    head: &[u8],
+    piece: &[u8],
+    n: usize,
+) -> Result<(), Fail> {
+    let bytes = repeated(alloc, head, piece, n)?;
+    reads_back(rt, alloc, bytes.as_slice())?;
+    tells(rt, alloc, half(bytes.as_slice()), Outcome::Short);
+    Ok(())
+}
+
+fn half(bytes: &[u8]) -> &[u8] {
+    &bytes[..bytes.len() / 2]
 }
 
 #[test]
@@ -245,10 +262,21 @@ fn lengths_at_the_edges(rt: HostRuntime) -> Result<(), Fail> {
         (&[0xdf, 0x00, 0x01, 0x00, 0x00], &[0xa0, 0xc0], 65_536),
     ];
     for (head, piece, n) in table {
-        let bytes = repeated(rt.alloc(), head, piece, n)?;
-        reads_back(&rt, rt.alloc(), bytes.as_slice())?;
-        half_is_short(&rt, rt.alloc(), bytes.as_slice());
+        is_edge(&rt, rt.alloc(), head, piece, n)?;
     }
+    Ok(())
+}
+
+/// The bytes are refused so from this length on, whatever follows, and are short before it.
+fn refused_from(
+    rt: &impl Abort,
+    alloc: Global,
+    bytes: &[u8],
+    known: usize,
+    outcome: Outcome,
+) -> Result<(), Fail> {
+    let all = repeated(alloc, bytes, &[0xc1, 0x00, 0xff], 1)?;
+    tells_from(rt, alloc, all.as_slice(), known, outcome);
     Ok(())
 }
 
@@ -299,25 +327,38 @@ fn refusals_come_when_they_are_known(rt: HostRuntime) -> Result<(), Fail> {
         (&[0x81, 0xdb, 0x01, 0x00, 0x00, 0x01], 6, 1, Reason::TooLong),
     ];
     for (bytes, known, place, reason) in table {
-        // Whatever follows.
-        let all = repeated(rt.alloc(), bytes, &[0xc1, 0x00, 0xff], 1)?;
-        tells_from(
+        refused_from(
             &rt,
             rt.alloc(),
-            all.as_slice(),
+            bytes,
             known,
             Outcome::Refused(place, reason),
-        );
+        )?;
     }
     Ok(())
 }
 
-/// With each first byte of an array and of a map behind these bytes, that byte is refused at this place.
-fn nest_too_deep(rt: &impl Abort, alloc: Global, open: &[u8], place: u64) -> Result<(), Fail> {
+/// A byte behind these bytes, that opens an array or a map, is refused at this place.
+fn nests_too_deep(
+    rt: &impl Abort,
+    alloc: Global,
+    open: &[u8],
+    last: u8,
+    place: u64,
+) -> Result<(), Fail> {
+    let deep = repeated(alloc, open, &[last], 1)?;
+    let refused = Outcome::Refused(place, Reason::TooDeep);
+    tells(rt, alloc, deep.as_slice(), refused);
+    Ok(())
+}
+
+/// These bytes open 127 levels: a value may stand behind them, and no array or map.
+fn is_deepest(rt: &impl Abort, alloc: Global, open: &[u8], len: u64) -> Result<(), Fail> {
+    tells(rt, alloc, open, Outcome::Short);
+    let closed = repeated(alloc, open, b"\xc0", 1)?;
+    reads_back(rt, alloc, closed.as_slice())?;
     for last in [0x90, 0x91, 0x80, 0x8f, 0xdc, 0xdd, 0xde, 0xdf] {
-        let deep = repeated(alloc, open, &[last], 1)?;
-        let refused = Outcome::Refused(place, Reason::TooDeep);
-        assert!(rt; told(alloc, deep.as_slice()) == refused, "{last}");
+        nests_too_deep(rt, alloc, open, last, len)?;
     }
     Ok(())
 }
@@ -332,13 +373,7 @@ fn the_128th_level_is_refused_by_its_first_byte(rt: HostRuntime) -> Result<(), F
     ];
     for (front, piece, n, len) in table {
         let open = repeated(rt.alloc(), front, piece, n)?;
-        assert!(rt;
-            told(rt.alloc(), open.as_slice()) == Outcome::Short,
-            "{len}"
-        );
-        let closed = repeated(rt.alloc(), open.as_slice(), b"\xc0", 1)?;
-        reads_back(&rt, rt.alloc(), closed.as_slice())?;
-        nest_too_deep(&rt, rt.alloc(), open.as_slice(), len)?;
+        is_deepest(&rt, rt.alloc(), open.as_slice(), len)?;
     }
     Ok(())
 }
@@ -349,7 +384,7 @@ fn an_array_in_a_keys_place(rt: HostRuntime) -> Result<(), Fail> {
         let open = repeated(rt.alloc(), b"", b"\x91", n)?;
         let bytes = repeated(rt.alloc(), open.as_slice(), b"\x81\xdd", 1)?;
         let refused = Outcome::Refused(place, reason);
-        assert!(rt; told(rt.alloc(), bytes.as_slice()) == refused, "{n}");
+        tells(&rt, rt.alloc(), bytes.as_slice(), refused);
     }
     Ok(())
 }
@@ -407,14 +442,18 @@ fn refuses(rt: &impl Abort, alloc: Global, value: &Datum, fault: EncodeFault) ->
     Ok(())
 }
 
+/// This in 128 arrays is too deep.
+fn too_deep(rt: &impl Abort, alloc: Global, inner: Datum) -> Result<(), Fail> {
+    let value = nested(alloc, inner, 128)?;
+    refuses(rt, alloc, &value, EncodeFault::TooDeep)
+}
+
 #[test]
 fn values_past_the_limits_are_refused(rt: HostRuntime) -> Result<(), Fail> {
-    let too_deep = nested(rt.alloc(), whole(1)?, 128)?;
-    refuses(&rt, rt.alloc(), &too_deep, EncodeFault::TooDeep)?;
+    too_deep(&rt, rt.alloc(), whole(1)?)?;
     let too_long = blob(rt.alloc(), 16_777_217)?;
     refuses(&rt, rt.alloc(), &too_long, EncodeFault::TooLong)?;
-    let both = nested(rt.alloc(), too_long, 128)?;
-    refuses(&rt, rt.alloc(), &both, EncodeFault::TooDeep)
+    too_deep(&rt, rt.alloc(), too_long)
 }
 
 fn map(alloc: Global, key: &str, value: Datum) -> Result<Datum, Fail> {
