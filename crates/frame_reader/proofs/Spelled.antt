@@ -7,17 +7,23 @@ use Rattle.wire_base.specs.declared.reason.Reason.{Reason}
 use Rattle.frame_text.specs.Front.{Whole, Broken}
 use Rattle.frame_text.specs.Reading.{front}
 use Rattle.frame_text.specs.Spelling.{AreFrames, IsBrokenStream}
-use Rattle.frame_text.proofs.Laws.{front_within, every_front_spelled, every_spelled_front, broken_first, first_broken}
-use Rattle.frame_reader.specs.Reads.{Begins, BreaksAfter, HasNone}
-use Rattle.frame_reader.proofs.Streams.{Placed}
+use Rattle.wire_base.proofs.GivenLemmas.{first_within}
+use Rattle.frame_text.proofs.Laws.{every_front_spelled, every_spelled_front, broken_first, first_broken}
+use Rattle.frame_reader.specs.Reads.{frames, Begins, BreaksAfter, HasNone}
+use Rattle.frame_reader.proofs.Streams.{Placed, frames_steady}
 
 pub frames_read : (v : Version) (at : ℕ) (stream : List ℕ) (given : List Placed) (rest : List ℕ) → Begins v at stream given rest → HasNone v rest → AreFrames v at stream given rest
 frames_read v at stream [] rest h none = (h, λ f b more spelled e. none f (length b) (rw e (every_spelled_front v f b more spelled)))
 frames_read v at stream (x ∷ xs) rest h none =
-    let within = front_within v stream x.1 h.1 h.2 in
-    let size : h.1 ≡ length (take h.1 stream) = sym (length-take-le h.1 stream within.1) in
-    let then : AreFrames v (at + h.1) (drop h.1 stream) xs rest = frames_read v (at + h.1) (drop h.1 stream) xs rest h.3 none in
-    (h.0, take h.1 stream, drop h.1 stream, every_front_spelled v stream x.1 h.1 h.2, sym (take-append-drop h.1 stream), subst (λ n. AreFrames v (at + n) (drop h.1 stream) xs rest) size then)
+    let n = h.0.size in
+    let within = first_within (frames v) (frames_steady v) at stream x h.0 in
+    let size : n ≡ length (take n stream) = sym (length-take-le n stream within.1) in
+    let whole : front v stream ≡ Whole x.1 n = h.0.whole ∙ ap (λ (p : Placed). Whole p.1 n) (sym h.0.given_is) in
+    let then : AreFrames v (at + n) (drop n stream) xs rest = frames_read v (at + n) (drop n stream) xs rest h.1 none in
+    (ap (λ (p : Placed). p.0) h.0.given_is, take n stream, drop n stream, every_front_spelled v stream x.1 n whole, sym (take-append-drop n stream), subst (λ m. AreFrames v (at + m) (drop n stream) xs rest) size then)
+
+placed_is : (at : ℕ) (x : Placed) → x.0 ≡ at → x ≡ (at, x.1)
+placed_is at x e = ap (λ n. (n, x.1)) e
 
 pub record ReadAs (v : Version) (at : ℕ) (stream : List ℕ) (given : List Placed) (rest : List ℕ) : Type 0 where
   pub begins : Begins v at stream given rest
@@ -33,7 +39,7 @@ read_as v at stream (x ∷ xs) rest h =
     let whole : front v stream ≡ Whole x.1 (length h.1) = rw h.4 (every_spelled_front v x.1 h.1 h.2 h.3) in
     let behind : h.2 ≡ drop (length h.1) stream = sym (ap (drop (length h.1)) h.4 ∙ drop-append_seam h.1 h.2) in
     record {
-      begins = (h.0, length h.1, whole, subst (λ (s : List ℕ). Begins v (at + length h.1) s xs rest) behind r.begins);
+      begins = (record { value = x.1; size = length h.1; whole = whole; given_is = placed_is at x h.0 }, subst (λ (s : List ℕ). Begins v (at + length h.1) s xs rest) behind r.begins);
       none = r.none;
     }
 

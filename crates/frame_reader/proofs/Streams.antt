@@ -1,43 +1,35 @@
 -- Readings of streams, as pieces come and frames go.
-use Rattle.std.proofs.Common.{◌≡◌, ℕ, ◌+◌, ◌<◌, ◌≤◌, ◌⊎◌, inl, inr, List, [], ◌∷◌, ◌++◌, length, drop, refl, sym, ap, subst, ◌∙◌, arith, length-append, length-drop}
-use Rattle.std.proofs.lemmas.List.{drop-append-le}
+use Rattle.std.proofs.Common.{◌≡◌, ℕ, ◌+◌, ◌<◌, ◌≤◌, ◌⊎◌, inl, inr, List, [], ◌∷◌, ◌++◌, length, drop, refl, sym, subst, ◌∙◌, arith, length-append, length-drop}
 use Rattle.wire_base.specs.declared.frame.Frame.{Frame}
 use Rattle.wire_base.specs.declared.frame.Version.{Version}
 use Rattle.wire_base.specs.declared.place.Place.{Place}
 use Rattle.wire_base.specs.declared.reason.Reason.{Reason}
-use Rattle.frame_text.specs.Front.{Whole, Short, Broken}
+use Rattle.frame_text.specs.Front.{Whole, Broken}
 use Rattle.frame_text.specs.Reading.{front}
-use Rattle.frame_text.proofs.Laws.{front_within, front_stays, broken_stays}
+use Rattle.wire_base.specs.Given.{First}
+use Rattle.wire_base.proofs.GivenLemmas.{IsSteadyWay, place_is, begins_more, begins_next}
+use Rattle.frame_text.proofs.Within.{is_front-within}
+use Rattle.frame_text.proofs.Steady.{front-steady}
+use Rattle.frame_text.proofs.Laws.{front_within, broken_stays}
 use Rattle.frame_reader.specs.Unread.{Unread, with_piece, without_front, with_refusal}
 use Rattle.frame_reader.specs.Answers.{Answers, HasFrame, RefusesAt}
-use Rattle.frame_reader.specs.Reads.{Begins, Reads, Follows, given_with}
+use Rattle.frame_reader.specs.Reads.{frames, Reads, Follows, given_with}
 use Rattle.frame_reader.specs.declared.next.Next.{Next}
 use Rattle.frame_reader.specs.declared.next.Next.TheVariants as next
 
 abbrev pub Placed : Type 0
 Placed = ℕ × Frame
 
--- more of the stream stands behind the rest
-pub begins-more : (v : Version) (at : ℕ) (stream : List ℕ) (given : List Placed) (rest more : List ℕ) → Begins v at stream given rest → Begins v at (stream ++ more) given (rest ++ more)
-begins-more v at stream [] rest more h = ap (λ (s : List ℕ). s ++ more) h
-begins-more v at stream (x ∷ xs) rest more h =
-    let within = front_within v stream x.1 h.1 h.2 in
-    let then : Begins v (at + h.1) (drop h.1 stream ++ more) xs (rest ++ more) = begins-more v (at + h.1) (drop h.1 stream) xs rest more h.3 in
-    (h.0, h.1, front_stays v stream more x.1 h.1 h.2, rw (drop-append-le h.1 stream more within.1) then)
+pub frames_steady : (v : Version) → IsSteadyWay (frames v)
+frames_steady v = record { within = is_front-within v; stays = front-steady v }
 
--- the frame at the front of the rest is the next
-pub begins-next : (v : Version) (at : ℕ) (stream : List ℕ) (given : List Placed) (rest : List ℕ) (place size : ℕ) (frame : Frame) → Begins v at stream given rest → front v rest ≡ Whole frame size → place + length rest ≡ at + length stream → Begins v at stream (given ++ (place, frame) ∷ []) (drop size rest)
-begins-next v at stream [] rest place size frame h e p =
-    let same : length stream ≡ length rest = ap length h in
-    (omega (arith, p, same), size, rw h e, ap (drop size) h)
-begins-next v at stream (x ∷ xs) rest place size frame h e p =
-    let within = front_within v stream x.1 h.1 h.2 in
-    let there : place + length rest ≡ (at + h.1) + length (drop h.1 stream) = omega (arith, p, within.1, length-drop h.1 stream) in
-    (h.0, h.1, h.2, begins-next v (at + h.1) (drop h.1 stream) xs rest place size frame h.3 e there)
+-- the frame at the front is given first
+abbrev pub frame_first : (v : Version) (at : ℕ) (stream : List ℕ) (frame : Frame) (size : ℕ) → front v stream ≡ Whole frame size → First (frames v) at stream (at, frame)
+frame_first v at stream frame size e = record { value = frame; size = size; whole = e; given_is = refl }
 
 reads-piece : (reader : Unread) (start : ℕ) (stream : List ℕ) (given : List Placed) (piece : List ℕ) → Reads reader start stream given → Reads (with_piece piece reader) start (stream ++ piece) given
 reads-piece reader start stream given piece h = record {
-  begins = begins-more reader.version start stream given reader.rest piece h.begins;
+  begins = begins_more (frames reader.version) (frames_steady reader.version) start stream given reader.rest piece h.begins;
   place_is = omega (arith, h.place_is, length-append reader.rest piece, length-append stream piece);
   fed_is = omega (arith, h.fed_is, length-append stream piece);
 }
@@ -49,7 +41,7 @@ reads-frame : (reader : Unread) (start : ℕ) (stream : List ℕ) (given : List 
 reads-frame reader start stream given size frame h e =
     let within = front_within reader.version reader.rest frame size e in
     record {
-      begins = begins-next reader.version start stream given reader.rest reader.at size frame h.begins e h.place_is;
+      begins = begins_next (frames reader.version) (frames_steady reader.version) start stream given reader.rest reader.at (reader.at, frame) h.begins h.place_is (frame_first reader.version reader.at reader.rest frame size e);
       place_is = omega (arith, h.place_is, within.1, length-drop size reader.rest);
       fed_is = h.fed_is;
     }
@@ -66,7 +58,8 @@ reads-answer next.OutOfMemory old new start stream given a h = rw a h
 
 pub answer-follows : (answer : Next) (old new : Unread) (start : ℕ) (stream : List ℕ) (given : List Placed) → Answers answer old new → Reads old start stream given → Follows old.version start stream given answer
 answer-follows (next.Frame place frame) old new start stream given a h =
-    (drop a.0 old.rest, begins-next old.version start stream given old.rest place.0 a.0 frame h.begins a.1 (omega (arith, h.place_is, a.2)))
+    let there : place.0 + length old.rest ≡ start + length stream = omega (arith, h.place_is, a.2) in
+    (drop a.0 old.rest, begins_next (frames old.version) (frames_steady old.version) start stream given old.rest place.0 (place.0, frame) h.begins there (frame_first old.version place.0 old.rest frame a.0 a.1))
 answer-follows next.Short old new start stream given a h = (old.rest, h.begins, a.0)
 answer-follows (next.Refused place reason) old new start stream given a h =
     record { rest = old.rest; offset = a.0.offset; begins = h.begins; broken = a.0.broken; place_is = omega (arith, h.place_is, a.0.place_is) }
@@ -74,9 +67,6 @@ answer-follows next.OutOfMemory old new start stream given a h = tt
 
 pub refuses-more : (old new : Unread) (piece : List ℕ) (place : Place) (reason : Reason) → new ≡ with_piece piece old → RefusesAt old place reason → RefusesAt new place reason
 refuses-more old new piece place reason e h = rw e (record { offset = h.offset; broken = broken_stays old.version old.rest piece h.offset reason h.broken; place_is = h.place_is })
-
-place_is : (p q : Place) → p.0 ≡ q.0 → p ≡ q
-place_is p q e = subst (λ n. p ≡ record { 0 = n }) e refl
 
 pub refuses-again : (answer : Next) (old new : Unread) (place : Place) (reason : Reason) → Answers answer old new → RefusesAt old place reason → (answer ≡ next.Refused place reason) ⊎ (answer ≡ next.OutOfMemory)
 refuses-again (next.Frame at frame) old new place reason a h = absurd (let e : Whole frame a.0 ≡ Broken h.offset reason = sym a.1 ∙ h.broken in cc)

@@ -1,18 +1,23 @@
 -- Readings of whole streams. A stream is all bytes that were fed, and a frame stands with the place of its first byte, the oldest first.
-use Rattle.std.specs.Prelude.{◌≡◌, ◌≢◌, ℕ, ◌+◌, List, [], ◌∷◌, ◌++◌, length, drop}
+use Rattle.std.specs.Prelude.{◌≡◌, ℕ, ◌+◌, List, [], ◌∷◌, ◌++◌, length}
 use Rattle.wire_base.specs.declared.frame.Frame.{Frame}
 use Rattle.wire_base.specs.declared.frame.Version.{Version}
 use Rattle.wire_base.specs.declared.reason.Reason.{Reason}
-use Rattle.frame_text.specs.Front.{Whole, Short, Broken}
+use Rattle.frame_text.specs.Front.{Short, Broken}
+use Rattle.wire_base.specs.Given.{Way}
+use Rattle.wire_base.specs.Given as given
 use Rattle.frame_text.specs.Reading.{front}
 use Rattle.frame_reader.specs.Unread.{Unread}
 use Rattle.frame_reader.specs.declared.next.Next.{Next}
 use Rattle.frame_reader.specs.declared.next.Next.TheVariants as next
 
+-- a frame is given with the place of its first byte
+abbrev pub frames : Version → Way Frame (ℕ × Frame)
+frames v = record { front = front v; give = λ at frame. (at, frame) }
+
 -- a stream whose first byte stands at a place begins with these frames, and then comes a rest
 abbrev pub Begins : Version → (at : ℕ) → (stream : List ℕ) → List (ℕ × Frame) → (rest : List ℕ) → Type 0
-Begins v at stream [] rest = stream ≡ rest
-Begins v at stream (x ∷ xs) rest = (x.0 ≡ at) × (size : ℕ) × (front v stream ≡ Whole x.1 size) × Begins v (at + size) (drop size stream) xs rest
+Begins v = given.Begins (frames v)
 
 -- of all bytes fed, which are this stream, these frames were given, and the rest is unread
 pub record Reads (reader : Unread) (start : ℕ) (stream : List ℕ) (given : List (ℕ × Frame)) : Type 0 where
@@ -29,7 +34,7 @@ given_with next.OutOfMemory given = given
 
 -- no whole frame stands at the front
 abbrev pub HasNone : Version → List ℕ → Type 0
-HasNone v bytes = (frame : Frame) (size : ℕ) → front v bytes ≢ Whole frame size
+HasNone v = given.HasNone (frames v)
 
 -- the stream breaks a rule after these frames, by the token at this place
 pub record BreaksAfter (v : Version) (start : ℕ) (stream : List ℕ) (given : List (ℕ × Frame)) (place : ℕ) (reason : Reason) : Type 0 where

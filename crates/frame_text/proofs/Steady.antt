@@ -92,7 +92,7 @@ frame_at-steady version.One = plain_at-steady
 frame_at-steady version.Two = packed_at-steady version.Two
 frame_at-steady version.Three = packed_at-steady version.Three
 
-front-steady : (v : Version) (bytes more : List ℕ) → IsFrontSteady (front v bytes) (front v (bytes ++ more))
+pub front-steady : (v : Version) (bytes more : List ℕ) → IsFrontSteady (front v bytes) (front v (bytes ++ more))
 unfolding front
 front-steady v bytes more =
     subst (λ n. IsFrontSteady (front_of (length bytes) (frame_at v bytes)) (front_of n (frame_at v (bytes ++ more)))) (sym (length-append bytes more))

@@ -4,14 +4,19 @@ use Rattle.std.proofs.lemmas.List.{drop-append-le, take-append-le}
 use Rattle.wire_base.specs.declared.place.Place.{Place}
 use Rattle.wire_base.specs.declared.reason.Reason.{Reason}
 use Rattle.message_framing.specs.declared.framing.Framing.{Framing}
+use Rattle.message_framing.specs.declared.front.Front.{Front}
 use Rattle.message_framing.specs.declared.front.Front.TheVariants.{Whole, Short, Broken}
+use Rattle.wire_base.specs.Front as fronts
+use Rattle.wire_base.specs.Given.{First}
+use Rattle.wire_base.proofs.Fronts.{IsFrontWithin, IsFrontSteady}
+use Rattle.wire_base.proofs.GivenLemmas.{IsSteadyWay, place_is, begins_more, begins_next}
 use Rattle.message_framing.specs.declared.next_body.NextBody.{NextBody}
 use Rattle.message_framing.specs.declared.next_body.NextBody.TheVariants as next
-use Rattle.message_framing.specs.Front.{front}
+use Rattle.message_framing.specs.Front.{front, IsWithin}
 use Rattle.message_framing.specs.Unread.{Unread, with_piece, without_front}
 use Rattle.message_framing.specs.Answers.{Answers, Gives, HasMessage, RefusesAt, front_body}
-use Rattle.message_framing.specs.Reads.{First, Begins, Reads, Follows, given_with}
-use Rattle.message_framing.proofs.FrontLemmas.{whole_within, front_stays, broken_stays}
+use Rattle.message_framing.specs.Reads.{message_of, messages, Begins, Reads, Follows, given_with}
+use Rattle.message_framing.proofs.FrontLemmas.{front_within, whole_within, front_stays, broken_stays}
 
 abbrev pub Placed : Type 0
 Placed = ℕ × List ℕ
@@ -21,44 +26,25 @@ body_stays start size stream more h =
     sym (take-append-le size (drop start stream) more (omega (arith, length-drop start stream)))
     ∙ ap (λ (s : List ℕ). take size s) (sym (drop-append-le start stream more (omega arith)))
 
-first-more : (f : Framing) (at : ℕ) (stream more : List ℕ) (x : Placed) → (m : First f at stream x) → First f at (stream ++ more) x
-first-more f at stream more x m =
-    let within = whole_within f stream m.start m.size m.whole in
-    record {
-      start = m.start;
-      size = m.size;
-      whole = front_stays f stream more m.start m.size m.whole;
-      place_is = m.place_is;
-      body_is = m.body_is ∙ body_stays m.start m.size stream more within.1;
-    }
+message-within : (bytes : List ℕ) (x : Front) → IsWithin (length bytes) x → IsFrontWithin (length bytes) (message_of bytes x)
+message-within bytes (Whole start size) h = (omega (arith, h.0), h.1)
+message-within bytes Short h = tt
+message-within bytes (Broken offset reason) h = h
 
--- more of the stream stands behind the rest
-pub begins-more : (f : Framing) (at : ℕ) (stream : List ℕ) (given : List Placed) (rest more : List ℕ) → Begins f at stream given rest → Begins f at (stream ++ more) given (rest ++ more)
-unfolding first-more
-begins-more f at stream [] rest more h = ap (λ (s : List ℕ). s ++ more) h
-begins-more f at stream (x ∷ xs) rest more h =
-    let m = h.0 in
-    let within = whole_within f stream m.start m.size m.whole in
-    let then : Begins f (at + (m.start + m.size)) (drop (m.start + m.size) stream ++ more) xs (rest ++ more) = begins-more f (at + (m.start + m.size)) (drop (m.start + m.size) stream) xs rest more h.1 in
-    (first-more f at stream more x m, rw (drop-append-le (m.start + m.size) stream more within.1) then)
+message-stays : (f : Framing) (bytes more : List ℕ) (x : Front) → front f bytes ≡ x → IsFrontSteady (message_of bytes x) (message_of (bytes ++ more) (front f (bytes ++ more)))
+message-stays f bytes more (Whole start size) e =
+    let within = whole_within f bytes start size e in
+    let same = body_stays start size bytes more within.1 in
+    rw (front_stays f bytes more start size e) (ap (λ (body : List ℕ). fronts.Whole (start, body) (start + size)) (sym same))
+message-stays f bytes more Short e = tt
+message-stays f bytes more (Broken offset reason) e = ap (message_of (bytes ++ more)) (broken_stays f bytes more offset reason e)
 
--- the message at the front of the rest is the next
-pub begins-next : (f : Framing) (at : ℕ) (stream : List ℕ) (given : List Placed) (rest : List ℕ) (there start size : ℕ) (x : Placed) → Begins f at stream given rest → front f rest ≡ Whole start size → x.0 ≡ there + start → x.1 ≡ take size (drop start rest)
-    → there + length rest ≡ at + length stream → Begins f at stream (given ++ x ∷ []) (drop (start + size) rest)
-begins-next f at stream [] rest there start size x h e place body p =
-    let same : length stream ≡ length rest = ap length h in
-    let m : First f at stream x = record { start = start; size = size; whole = rw h e; place_is = omega (arith, place, p, same); body_is = rw h body } in
-    (m, ap (drop (start + size)) h)
-begins-next f at stream (y ∷ ys) rest there start size x h e place body p =
-    let m = h.0 in
-    let end = m.start + m.size in
-    let within = whole_within f stream m.start m.size m.whole in
-    let later : there + length rest ≡ (at + end) + length (drop end stream) = omega (arith, p, within.1, length-drop end stream) in
-    (m, begins-next f (at + end) (drop end stream) ys rest there start size x h.1 e place body later)
+pub messages_steady : (f : Framing) → IsSteadyWay (messages f)
+messages_steady f = record { within = λ bytes. message-within bytes (front f bytes) (front_within f bytes); stays = λ bytes more. message-stays f bytes more (front f bytes) refl }
 
 reads-piece : (reader : Unread) (stream : List ℕ) (given : List Placed) (piece : List ℕ) → Reads reader stream given → Reads (with_piece piece reader) (stream ++ piece) given
 reads-piece reader stream given piece h = record {
-  begins = begins-more reader.framing 0 stream given reader.rest piece h.begins;
+  begins = begins_more (messages reader.framing) (messages_steady reader.framing) 0 stream given reader.rest piece h.begins;
   place_is = omega (arith, h.place_is, length-append reader.rest piece, length-append stream piece);
   fed_is = omega (arith, h.fed_is, length-append stream piece);
 }
@@ -68,7 +54,14 @@ reads-fed old new stream given piece e h = rw e (reads-piece old stream given pi
 
 begins-given : (old new : Unread) (place : Place) (body : List ℕ) (stream : List ℕ) (given : List Placed) → (a : Gives old new place body) → Reads old stream given → Begins old.framing 0 stream (given ++ (place.0, body) ∷ []) (drop (a.start + a.size) old.rest)
 begins-given old new place body stream given a h =
-    begins-next old.framing 0 stream given old.rest old.at a.start a.size (place.0, body) h.begins a.whole a.place_is a.body_is (omega (arith, h.place_is))
+    let there : old.at + length old.rest ≡ 0 + length stream = omega (arith, h.place_is) in
+    let first : First (messages old.framing) old.at old.rest (place.0, body) = record {
+      value = (a.start, take a.size (drop a.start old.rest));
+      size = a.start + a.size;
+      whole = ap (message_of old.rest) a.whole;
+      given_is = λ i. (a.place_is i, a.body_is i);
+    } in
+    begins_next (messages old.framing) (messages_steady old.framing) 0 stream given old.rest old.at (place.0, body) h.begins there first
 
 reads-body : (old new : Unread) (place : Place) (body : List ℕ) (stream : List ℕ) (given : List Placed) → (a : Gives old new place body) → Reads old stream given → Reads (without_front (a.start + a.size) old) stream (given ++ (place.0, body) ∷ [])
 reads-body old new place body stream given a h =
@@ -94,9 +87,6 @@ answer-follows next.OutOfMemory old new stream given a h = tt
 
 pub refuses-more : (old new : Unread) (piece : List ℕ) (place : Place) (reason : Reason) → new ≡ with_piece piece old → RefusesAt old place reason → RefusesAt new place reason
 refuses-more old new piece place reason e h = rw e (record { offset = h.offset; broken = broken_stays old.framing old.rest piece h.offset reason h.broken; place_is = h.place_is })
-
-place_is : (p q : Place) → p.0 ≡ q.0 → p ≡ q
-place_is p q e = subst (λ n. p ≡ record { 0 = n }) e refl
 
 pub refuses-again : (answer : NextBody) (old new : Unread) (place : Place) (reason : Reason) → Answers answer old new → RefusesAt old place reason → (answer ≡ next.Refused place reason) ⊎ (answer ≡ next.OutOfMemory)
 refuses-again (next.Body at body) old new place reason a h = absurd (let e : Whole a.start a.size ≡ Broken h.offset reason = sym a.whole ∙ h.broken in cc)

@@ -1,25 +1,30 @@
 -- Readings of whole streams. A stream is all bytes that were fed, and a body stands with the place of its first byte, the oldest first.
-use Rattle.std.specs.Prelude.{◌≡◌, ◌≢◌, ℕ, ◌+◌, List, [], ◌∷◌, ◌++◌, length, take, drop}
+use Rattle.std.specs.Prelude.{◌≡◌, ℕ, ◌+◌, List, [], ◌∷◌, ◌++◌, length, take, drop}
 use Rattle.wire_base.specs.declared.reason.Reason.{Reason}
 use Rattle.message_framing.specs.declared.framing.Framing.{Framing}
+use Rattle.message_framing.specs.declared.front.Front.{Front}
 use Rattle.message_framing.specs.declared.front.Front.TheVariants.{Whole, Short, Broken}
+use Rattle.wire_base.specs.Front as fronts
+use Rattle.wire_base.specs.Given.{Way}
+use Rattle.wire_base.specs.Given as given
 use Rattle.message_framing.specs.Front.{front}
 use Rattle.message_framing.specs.Unread.{Unread}
 use Rattle.message_framing.specs.declared.next_body.NextBody.{NextBody}
 use Rattle.message_framing.specs.declared.next_body.NextBody.TheVariants as next
 
--- a stream of which this is left, from this place on, begins with a message that has this body, and goes on behind it
-pub record First (f : Framing) (at : ℕ) (stream : List ℕ) (body : ℕ × List ℕ) : Type 0 where
-  pub start : ℕ
-  pub size : ℕ
-  pub whole : front f stream ≡ Whole start size
-  pub place_is : body.0 ≡ at + start
-  pub body_is : body.1 ≡ take size (drop start stream)
+-- what stands at the front of these bytes: a body with the number of bytes before it, and the size of its message
+abbrev pub message_of : List ℕ → Front → fronts.Front (ℕ × List ℕ)
+message_of bytes (Whole start size) = fronts.Whole (start, take size (drop start bytes)) (start + size)
+message_of bytes Short = fronts.Short
+message_of bytes (Broken offset reason) = fronts.Broken offset reason
+
+-- a body is given with the place of its first byte
+abbrev pub messages : Framing → Way (ℕ × List ℕ) (ℕ × List ℕ)
+messages f = record { front = λ bytes. message_of bytes (front f bytes); give = λ at body. (at + body.0, body.1) }
 
 -- a stream whose first byte stands at a place begins with messages of these bodies, and then comes a rest
 abbrev pub Begins : Framing → (at : ℕ) → (stream : List ℕ) → List (ℕ × List ℕ) → (rest : List ℕ) → Type 0
-Begins f at stream [] rest = stream ≡ rest
-Begins f at stream (x ∷ xs) rest = (m : First f at stream x) × Begins f (at + (m.start + m.size)) (drop (m.start + m.size) stream) xs rest
+Begins f = given.Begins (messages f)
 
 -- of all bytes fed, which are this stream, these bodies were given, and the rest is unread
 pub record Reads (reader : Unread) (stream : List ℕ) (given : List (ℕ × List ℕ)) : Type 0 where
@@ -36,7 +41,7 @@ given_with next.OutOfMemory given = given
 
 -- no whole message stands at the front
 abbrev pub HasNone : Framing → List ℕ → Type 0
-HasNone f bytes = (start size : ℕ) → front f bytes ≢ Whole start size
+HasNone f = given.HasNone (messages f)
 
 -- the stream breaks a rule after messages of these bodies, at this place
 pub record BreaksAfter (f : Framing) (stream : List ℕ) (given : List (ℕ × List ℕ)) (place : ℕ) (reason : Reason) : Type 0 where

@@ -11,4 +11,5 @@ pub mod TokenWithin
 pub mod TokenSteady
 pub mod TokenAgain
 pub mod Fronts
+pub mod GivenLemmas
 pub mod Refusals

@@ -16,4 +16,5 @@ pub mod Standard
 pub mod ControlCode
 pub mod Tokens
 pub mod Front
+pub mod Given
 pub mod Rules
