@@ -4,6 +4,7 @@ use super::rows::{Answer, a_life, fresh, lives, offer, sent, start};
 use crate::ChannelKey;
 use mux_items::GREATEST_WINDOW;
 use std::alloc::Global;
+use std::process::Abort;
 use std::test::Fail;
 use wire_base::{Refusal, Version};
 
@@ -17,39 +18,37 @@ fn offered(alloc: Global, version: Version, length: usize, window: u32) -> Resul
     Ok(offer(&mut end, alloc, &name, window))
 }
 
+/// Such an offer is refused so, or draws the first channel.
+fn is_refused(
+    rt: &impl Abort,
+    alloc: Global,
+    version: Version,
+    length: usize,
+    window: u32,
+    refusal: Option<Refusal>,
+) -> Result<(), Fail> {
+    let wanted = match refusal {
+        Some(refusal) => Answer::Refused(refusal),
+        None => Answer::Drew(ChannelKey { id: 1, own: true }),
+    };
+    let answer = offered(alloc, version, length, window)?;
+    assert_eq!(rt; answer, wanted, "{length} {window}");
+    Ok(())
+}
+
 #[test]
 fn offers_are_refused(rt: HostRuntime) -> Result<(), Fail> {
-    let drawn = ChannelKey { id: 1, own: true };
     let rows = [
-        (Version::Two, 1025, 0, Answer::Refused(Refusal::NotReady)),
-        (
-            Version::Three,
-            1025,
-            0,
-            Answer::Refused(Refusal::NameTooLong),
-        ),
-        (
-            Version::Three,
-            1025,
-            8,
-            Answer::Refused(Refusal::NameTooLong),
-        ),
-        (Version::Three, 1024, 0, Answer::Refused(Refusal::BadWindow)),
-        (
-            Version::Three,
-            0,
-            16_777_217,
-            Answer::Refused(Refusal::BadWindow),
-        ),
-        (Version::Three, 1024, 16_777_216, Answer::Drew(drawn)),
-        (Version::Three, 0, 1, Answer::Drew(drawn)),
+        (Version::Two, 1025, 0, Some(Refusal::NotReady)),
+        (Version::Three, 1025, 0, Some(Refusal::NameTooLong)),
+        (Version::Three, 1025, 8, Some(Refusal::NameTooLong)),
+        (Version::Three, 1024, 0, Some(Refusal::BadWindow)),
+        (Version::Three, 0, 16_777_217, Some(Refusal::BadWindow)),
+        (Version::Three, 1024, 16_777_216, None),
+        (Version::Three, 0, 1, None),
     ];
-    for (version, length, window, answer) in rows {
-        assert_eq!(rt;
-            offered(rt.alloc(), version, length, window)?,
-            answer,
-            "{length} {window}"
-        );
+    for (version, length, window, refusal) in rows {
+        is_refused(&rt, rt.alloc(), version, length, window, refusal)?;
     }
     Ok(())
 }

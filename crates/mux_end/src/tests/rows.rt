@@ -6,22 +6,30 @@ use std::process::Abort;
 use std::test::Fail;
 use wire_base::{CallFault, EndState, Refusal, Text, Version};
 
-/// The bytes that a word of hex digits stands for, or its name: greetings, and frames of version 3 on channel 1. Its
-/// offer is that of `a` with window 8, its acceptance has window 4, and the other frames have no payload.
+/// Names of bytes: greetings, and frames of version 3 on channel 1. Its offer is that of `a` with window 8, its
+/// acceptance has window 4, and the other frames have no payload.
+const NAMES: &str = "
+    lesser-plain-hello  2fdf1d5000000000000000000000000000000000
+    greater-plain-hello 2fdf1d5001010101010101010101010101010101
+    lesser-hello        92920200c41000000000000000000000000000000000
+    greater-hello       92920200c41001010101010101010101010101010101
+    offer               94000101c40492a16108
+    acceptance          940101ffc4029104
+    offerer-completes   93030101
+    acceptor-completes  930301ff
+    offerer-terminates  93040101
+    acceptor-terminates 930401ff";
+
+/// The digits of a name, or the word itself.
 fn hex(word: &str) -> &str {
-    match word {
-        "lesser-plain-hello" => "2fdf1d5000000000000000000000000000000000",
-        "greater-plain-hello" => "2fdf1d5001010101010101010101010101010101",
-        "lesser-hello" => "92920200c41000000000000000000000000000000000",
-        "greater-hello" => "92920200c41001010101010101010101010101010101",
-        "offer" => "94000101c40492a16108",
-        "acceptance" => "940101ffc4029104",
-        "offerer-completes" => "93030101",
-        "acceptor-completes" => "930301ff",
-        "offerer-terminates" => "93040101",
-        "acceptor-terminates" => "930401ff",
-        digits => digits,
+    for line in NAMES.lines() {
+        if let Some((name, digits)) = line.trim().split_once(' ')
+            && name == word
+        {
+            return digits.trim();
+        }
     }
+    word
 }
 
 fn digit(letter: u8) -> u8 {
