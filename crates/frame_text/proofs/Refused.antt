@@ -3,7 +3,7 @@ use Rattle.std.proofs.Common.{◌≡◌, ℕ, ◌+◌, ◌-◌, ◌≤◌, Bool,
 use Rattle.std.specs.Prelude.{pos, negsuc, is_some, not, ◌&&◌, ◌||◌, ◌==◌, nat_lt}
 use Rattle.std.specs.Int.{w8, w16, w32, byte_len, from_be_bytes, cast_signed}
 use Rattle.std.specs.Str.{is_utf8}
-use Rattle.std.proofs.lemmas.Bool.{ltb-false, le-ltb, lt-ltb, eqb-true, eqb-false, ne_eqb}
+use Rattle.std.proofs.lemmas.Bool.{ltb-true, ltb-false, le-ltb, lt-ltb, eqb-true, eqb-false, ne_eqb}
 use Rattle.std.proofs.lemmas.List.{length-take, drop-drop}
 use Rattle.wire_base.specs.declared.limits.TheConstants.{COUNT_LIMIT, MAX_PAYLOAD}
 use Rattle.wire_base.specs.Head.{Kind, whole_head, unsigned, signed, str, bin, array, map, refused, kind_of, head_of, read_kind}
@@ -31,8 +31,9 @@ use Rattle.wire_base.proofs.TokenSorts.{is_sort-number, is_sort-str, is_sort-bin
 use Rattle.wire_base.proofs.TokenWithin.{tested}
 use Rattle.wire_base.proofs.Refusals.{IsRefused, at_offset, Step, step-then, meant, IsDue, some_if, number_says, head-step, token-step, inner-step, field-step, follow-assoc, done-refused, front_of-refused, refused-front_of}
 use Rattle.frame_text.specs.Codec.{elements}
-use Rattle.frame_text.specs.Reading.{code_in, id_in, origin_in, name_of, name_at, optional_at, offer_at, accepted_at, processed_at, spoiled, ended, carried, run_of, payload_at, content_at, origin_at, packed_at, plain_code, plain_id, plain_carried, plain_content_at, plain_at, frame_at, front}
+use Rattle.frame_text.specs.Reading.{code_in, id_in, origin_in, name_of, name_at, optional_at, offer_at, accepted_at, processed_at, spoiled, ended, carried, run_of, payload_at, content_at, origin_at, packed_at, plain_of, plain_code, plain_id, plain_carried, plain_content_at, plain_at, frame_at, front}
 use Rattle.frame_text.specs.Rules.{array_due, code_due, id_due, says_source, source_due, payload_due, name_due, count_due, one_due, optional_refusal, name_then, offer_refusal, acceptance_refusal, acknowledgement_refusal, carried_refusal, body_refusal, payload_refusal, code_said, source_then, packed_refusal, plain_carried_refusal, plain_body_refusal, plain_refusal, first_refusal}
+use Rattle.frame_text.proofs.Found.{code_of-found}
 use Rattle.frame_text.proofs.Plain.{not_plain}
 
 -- ---- the tokens that are due
@@ -350,31 +351,28 @@ packed-refused v bytes =
 
 -- ---- version 1
 
+-- of the numbers below 6 that are not 5
+below_five : (n : ℕ) → (n ≡ 5 → ⊥) → nat_lt n 5 ≡ nat_lt n 6
+below_five n other = elim (tested (nat_lt n 5)) [
+  | inl t ↦ let few = ltb-true n 5 t in t ∙ sym (lt-ltb n 6 (omega (arith, few)))
+  | inr t ↦ let many = ltb-false n 5 t in t ∙ sym (le-ltb n 6 (omega (arith, many, other)))
+]
+
+plain_is : (o : Option Code) → (o ≡ Some code.ContentProcessed → ⊥) → is_some o ≡ is_some (plain_of o)
+plain_is None other = refl
+plain_is (Some code.Offer) other = refl
+plain_is (Some code.OfferAccepted) other = refl
+plain_is (Some code.Content) other = refl
+plain_is (Some code.ContentWritingCompleted) other = refl
+plain_is (Some code.ChannelTerminated) other = refl
+plain_is (Some code.ContentProcessed) other = absurd (other refl)
+
 plain_some : (n : ℕ) → nat_lt n 5 ≡ is_some (plain_code n)
-plain_some n = elim (tested (n == 0)) [
-  | inl a ↦ rw (eqb-true n 0 a) refl
-  | inr a ↦ elim (tested (n == 1)) [
-    | inl b ↦ rw (eqb-true n 1 b) refl
-    | inr b ↦ elim (tested (n == 2)) [
-      | inl c ↦ rw (eqb-true n 2 c) refl
-      | inr c ↦ elim (tested (n == 3)) [
-        | inl d ↦ rw (eqb-true n 3 d) refl
-        | inr d ↦ elim (tested (n == 4)) [
-          | inl f ↦ rw (eqb-true n 4 f) refl
-          | inr f ↦ elim (tested (n == 5)) [
-            | inl g ↦ rw (eqb-true n 5 g) refl
-            | inr g ↦
-                let na = eqb-false n 0 a in
-                let nb = eqb-false n 1 b in
-                let nc = eqb-false n 2 c in
-                let nd = eqb-false n 3 d in
-                let nf = eqb-false n 4 f in
-                rw (le-ltb n 5 (omega (arith, na, nb, nc, nd, nf)), a, b, c, d, f, g) refl
-          ]
-        ]
-      ]
-    ]
-  ]
+plain_some n = elim (tested (n == 5)) [
+  | inl t ↦ rw (eqb-true n 5 t) refl
+  | inr t ↦
+      let other = eqb-false n 5 t in
+      below_five n other ∙ code_some n ∙ plain_is (code_of n) (λ e. other (code_of-found n code.ContentProcessed e))
 ]
 
 id_some : (n : ℕ) → nat_lt 0 n ≡ is_some (plain_id n)
