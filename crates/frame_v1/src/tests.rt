@@ -189,20 +189,36 @@ fn refuses_at_the_first_field_that_breaks_a_rule(rt: HostRuntime) {
     }
 }
 
+const LONG: [u8; 0x0102] = [7; 0x0102];
+
+/// Whether these bytes are one frame of this content.
+fn is_content(alloc: Global, text: &[u8], content: &[u8]) -> bool {
+    match got(alloc, text) {
+        Ok((frame, size)) => size == text.len() && carries(&frame.payload, content),
+        Err(_) => false,
+    }
+}
+
+fn carries(payload: &Payload, content: &[u8]) -> bool {
+    match payload {
+        Payload::Content(bytes) => bytes.as_bytes() == content,
+        _ => false,
+    }
+}
+
+/// A byte, and behind it a frame of content of 0x0102 bytes.
+fn long_text(alloc: Global) -> Result<Vec<u8>, Fail> {
+    let mut text = Vec::from_slice(alloc, b"\x09\x02\x01\x02\x03\x04\x01\x02")?;
+    text.extend_from_slice(&LONG)?;
+    Ok(text)
+}
+
 #[test]
 fn writes_the_high_byte_of_a_length_first(rt: HostRuntime) -> Result<(), Fail> {
-    let alloc = rt.alloc();
-    let bytes = vec![in alloc; 7; 0x0102]?;
-    let out = written(alloc, b"\x09", &content(alloc, 0x01020304, &bytes)?)?;
-    assert_eq!(rt; out.len(), 1 + 7 + 0x0102);
-    assert!(rt; out.starts_with(b"\x09\x02\x01\x02\x03\x04\x01\x02"));
-    assert_eq!(rt; &out[8..], bytes.as_slice());
-    let (read, size) = got(alloc, &out[1..])?;
-    assert_eq!(rt; size, 7 + 0x0102);
-    match &read.payload {
-        Payload::Content(read) => assert_eq!(rt; read.as_bytes(), bytes.as_slice()),
-        _ => assert!(rt; false),
-    }
+    let text = long_text(rt.alloc())?;
+    let frame = content(rt.alloc(), 0x01020304, &LONG)?;
+    assert_eq!(rt; written(rt.alloc(), b"\x09", &frame)?, text);
+    assert!(rt; is_content(rt.alloc(), text.get(1..).unwrap_or(&[]), &LONG));
     Ok(())
 }
 
