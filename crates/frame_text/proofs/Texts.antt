@@ -21,7 +21,7 @@ use Rattle.wire_base.proofs.ShortestLemmas.{is_unsigned, is_str, is_bin}
 use Rattle.frame_text.specs.Frames.{code_number, origin_text, str_text, payload_text, payload_element, is_empty, is_count, fits_code, fits_id, fits_origin, fits_length, fits, text}
 use Rattle.frame_text.specs.Front.{Whole}
 use Rattle.frame_text.specs.Reading.{front}
-use Rattle.frame_text.specs.Spelling.{IsHead, IsNumber, IsOptional, with_optional, IsName, Carries, IsSource, PackedFrameIs, FrameIs}
+use Rattle.frame_text.specs.Spelling.{IsHead, IsNumber, IsOptional, with_optional, IsName, Carries, IsSource, IsElement, PackedFrameIs, FrameIs}
 use Rattle.frame_text.proofs.Again.{spelled_front}
 
 -- ---- payloads
@@ -115,45 +115,34 @@ text_with v f bytes =
     array_head (cond (is_empty bytes) (elements v) (elements v + 1))
     ++ unsigned_text (code_number f.code) ++ unsigned_text f.id ++ origin_text f.origin ++ payload_element bytes
 
-text_with-is : (v : Version) (f : Frame) (bytes : List ℕ) → is_packed v ≡ true → 0 < f.id → f.id < COUNT_LIMIT → fits_origin v f.origin ≡ true → length bytes ≤ MAX_PAYLOAD → Carries f.code f.payload bytes → PackedFrameIs v f (text_with v f bytes)
-text_with-is v f [] p some below source most carries = record {
-  has_payload = false;
-  array = array_head (elements v);
+-- of an element for these bytes, if any
+elements_are : (v : Version) (f : Frame) (has : Bool) (bytes last : List ℕ) → is_packed v ≡ true → 0 < f.id → f.id < COUNT_LIMIT → fits_origin v f.origin ≡ true → IsElement has bytes last → Carries f.code f.payload bytes →
+    PackedFrameIs v f (array_head (cond has (elements v + 1) (elements v)) ++ unsigned_text (code_number f.code) ++ unsigned_text f.id ++ origin_text f.origin ++ last)
+elements_are v f has bytes last p some below source element carries = record {
+  has_payload = has;
+  array = array_head (cond has (elements v + 1) (elements v));
   first = unsigned_text (code_number f.code);
   second = unsigned_text f.id;
   third = origin_text f.origin;
-  last = [];
-  bytes = [];
-  is_array = is_array-text v false;
+  last = last;
+  bytes = bytes;
+  is_array = is_array-text v has;
   is_code = is_code-text f.code;
   is_id = is_unsigned f.id (omega (arith, below));
   some_id = some;
   id_below = below;
   is_source = is_source-text v f.origin p source;
-  is_payload = (refl, refl);
+  is_payload = element;
   carries = carries;
   parts = simp append_assoc;
 }
+
+text_with-is : (v : Version) (f : Frame) (bytes : List ℕ) → is_packed v ≡ true → 0 < f.id → f.id < COUNT_LIMIT → fits_origin v f.origin ≡ true → length bytes ≤ MAX_PAYLOAD → Carries f.code f.payload bytes → PackedFrameIs v f (text_with v f bytes)
+text_with-is v f [] p some below source most carries = elements_are v f false [] [] p some below source (refl, refl) carries
 text_with-is v f (b ∷ bytes) p some below source most carries =
-    let all = b ∷ bytes in
-    record {
-      has_payload = true;
-      array = array_head (elements v + 1);
-      first = unsigned_text (code_number f.code);
-      second = unsigned_text f.id;
-      third = origin_text f.origin;
-      last = bin_head (length all) ++ all;
-      bytes = all;
-      is_array = is_array-text v true;
-      is_code = is_code-text f.code;
-      is_id = is_unsigned f.id (omega (arith, below));
-      some_id = some;
-      id_below = below;
-      is_source = is_source-text v f.origin p source;
-      is_payload = record { head = bin_head (length all); is_head = is_bin (length all) (omega (arith, most)); most = most; parts = refl };
-      carries = carries;
-      parts = simp append_assoc;
-    }
+    let n = length (b ∷ bytes) in
+    elements_are v f true (b ∷ bytes) (bin_head n ++ b ∷ bytes) p some below source
+    (record { head = bin_head n; is_head = is_bin n (omega (arith, most)); most = most; parts = refl }) carries
 
 -- what fits, part by part
 pub record Fitting (v : Version) (f : Frame) : Type 0 where
