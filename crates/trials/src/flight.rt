@@ -78,7 +78,7 @@ fn bin(bytes: &[u8], at: usize) -> Option<(u64, usize)> {
 }
 
 /// Code, id and size in fixed widths.
-fn head_of_one(bytes: &[u8], at: usize) -> Option<Head> {
+fn head_in_widths(bytes: &[u8], at: usize) -> Option<Head> {
     let (code, at) = fixed(bytes, at, 1)?;
     let (id, at) = fixed(bytes, at, 4)?;
     let (size, at) = fixed(bytes, at, 2)?;
@@ -91,32 +91,32 @@ fn head_of_one(bytes: &[u8], at: usize) -> Option<Head> {
     })
 }
 
-/// An array of code, id and a bin, which is left out where it is empty.
-fn head_of_two(bytes: &[u8], at: usize) -> Option<Head> {
-    let (array, at) = fixed(bytes, at, 1)?;
-    let (code, at) = whole(bytes, at)?;
-    let (id, at) = whole(bytes, at)?;
-    let (size, at) = if array == 0x93 {
-        bin(bytes, at)?
-    } else {
-        (0, at)
-    };
-    Some(Head {
-        code,
-        id,
-        by_offerer: None,
-        size,
-        at,
-    })
+/// Whether the sender offered the channel, which only version 3 says, and the place behind it.
+fn source(version: Version, bytes: &[u8], at: usize) -> Option<(Option<bool>, usize)> {
+    match version {
+        Version::Three => {
+            let (source, at) = whole(bytes, at)?;
+            Some((Some(source == 1), at))
+        }
+        Version::One | Version::Two => Some((None, at)),
+    }
 }
 
-/// An array of code, id, source and a bin, which is left out where it is empty.
-fn head_of_three(bytes: &[u8], at: usize) -> Option<Head> {
+/// The head of an array that holds a payload.
+fn full_array(version: Version) -> u64 {
+    match version {
+        Version::Three => 0x94,
+        Version::One | Version::Two => 0x93,
+    }
+}
+
+/// An array of code, id, in version 3 a source, and a bin, which is left out where it is empty.
+fn head_in_array(version: Version, bytes: &[u8], at: usize) -> Option<Head> {
     let (array, at) = fixed(bytes, at, 1)?;
     let (code, at) = whole(bytes, at)?;
     let (id, at) = whole(bytes, at)?;
-    let (source, at) = whole(bytes, at)?;
-    let (size, at) = if array == 0x94 {
+    let (by_offerer, at) = source(version, bytes, at)?;
+    let (size, at) = if array == full_array(version) {
         bin(bytes, at)?
     } else {
         (0, at)
@@ -124,7 +124,7 @@ fn head_of_three(bytes: &[u8], at: usize) -> Option<Head> {
     Some(Head {
         code,
         id,
-        by_offerer: Some(source == 1),
+        by_offerer,
         size,
         at,
     })
@@ -132,9 +132,8 @@ fn head_of_three(bytes: &[u8], at: usize) -> Option<Head> {
 
 fn head_at(version: Version, bytes: &[u8], at: usize) -> Option<Head> {
     match version {
-        Version::One => head_of_one(bytes, at),
-        Version::Two => head_of_two(bytes, at),
-        Version::Three => head_of_three(bytes, at),
+        Version::One => head_in_widths(bytes, at),
+        Version::Two | Version::Three => head_in_array(version, bytes, at),
     }
 }
 

@@ -19,7 +19,7 @@ const MOST_WINDOW: u32 = 30;
 /// The most bytes of a write or a read.
 const MOST_BYTES: u32 = 40;
 
-const BYTES: [u8; 40] = *b"abcdefghijklmnopqrstuvwxyz0123456789-+.:";
+const BYTES: &[u8] = b"abcdefghijklmnopqrstuvwxyz0123456789-+.:";
 
 /// More than is ever in flight.
 pub const ALL: u64 = 1_000_000;
@@ -37,7 +37,7 @@ pub enum Move {
 }
 
 fn content(alloc: Global, size: u32) -> Result<Blob, OutOfMemory> {
-    Blob::from_bytes(alloc, BYTES.get(..size as usize).unwrap_or(&BYTES))
+    Blob::from_bytes(alloc, BYTES.get(..size as usize).unwrap_or(BYTES))
 }
 
 pub fn step_of(alloc: Global, side: Side, makes: Move) -> Result<Step, OutOfMemory> {

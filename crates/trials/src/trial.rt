@@ -41,14 +41,6 @@ pub struct Met {
 }
 
 impl Met {
-    pub fn add(&mut self, more: Met) {
-        self.content |= more.content;
-        self.acknowledgements |= more.acknowledgements;
-        self.unread |= more.unread;
-        self.cut |= more.cut;
-        self.rest |= more.rest;
-    }
-
     fn look(&mut self, found: &[Direction]) {
         for direction in found {
             self.content |= direction.content > 0;
@@ -68,6 +60,14 @@ pub struct Trial {
     channels: Vec<Channel>,
     draws: Draws,
     pub met: Met,
+}
+
+/// A world where a drawn side has the greater nonce.
+fn drawn_world(alloc: Global, version: Version, draws: &mut Draws) -> Result<Duo, OutOfMemory> {
+    match draws.below(2) {
+        0 => Duo::start(alloc, version, [[1; 16], [2; 16]]),
+        _ => Duo::start(alloc, version, [[2; 16], [1; 16]]),
+    }
 }
 
 fn delivered(answer: &DuoAnswer) -> usize {
@@ -118,13 +118,9 @@ fn wrong_at_rest(found: &[Direction]) -> Option<Wrong> {
 impl Trial {
     pub fn start(alloc: Global, version: Version, seed: u64) -> Result<Trial, OutOfMemory> {
         let mut draws = Draws::new(seed);
-        let nonces = match draws.below(2) {
-            0 => [[1; 16], [2; 16]],
-            _ => [[2; 16], [1; 16]],
-        };
         let mut trial = Trial {
             alloc,
-            duo: Duo::start(alloc, version, nonces)?,
+            duo: drawn_world(alloc, version, &mut draws)?,
             from_a: Emitted::new(alloc, version),
             from_b: Emitted::new(alloc, version),
             channels: Vec::new(alloc),
