@@ -1,185 +1,353 @@
 //! Worked values of two joined ends.
 
 use crate::Duo;
-use mux_items::{Call, ChannelKey, MuxEvent, Phase, Tally};
-use mux_run::{DuoAnswer, EndEvent, Reply, Side, Step, StepList};
+use mux_items::{Call, ChannelKey, Phase, Tally};
+use mux_run::{DuoAnswer, EventList, Reply, Side, Step, StepList};
 use std::alloc::Global;
 use std::test::Fail;
-use wire_base::{Blob, Cause, OutOfMemory, Place, Reason, Refusal, Text, Version};
-
-/// The channels that A offered, as A and as B name them.
-const FIRST: ChannelKey = ChannelKey { id: 1, own: true };
-
-const SECOND: ChannelKey = ChannelKey { id: 2, own: true };
-
-const FIRST_AT_B: ChannelKey = ChannelKey { id: 1, own: false };
-
-const SECOND_AT_B: ChannelKey = ChannelKey { id: 2, own: false };
-
-/// The offer of `a` with window 8.
-const OFFER: &[u8] = b"\x94\x00\x01\x01\xc4\x04\x92\xa1\x61\x08";
+use wire_base::{Blob, OutOfMemory, Text, Version};
 
 /// More than is ever in flight.
 const ALL: u64 = 1_000_000;
 
-/// What a row does at its side. A delivery is of all that is in flight.
+/// What a row does at its side, on a channel that A offered. A delivery is of all that is in flight.
 #[derive(Clone, Copy)]
 enum Move {
-    Offer(&'static str, u32),
-    Accept(ChannelKey, u32),
-    Write(ChannelKey, &'static [u8]),
-    Read(ChannelKey, u32),
-    Complete(ChannelKey),
-    Terminate(ChannelKey),
+    Offer(u32),
+    Accept(u64, u32),
+    Write(u64, &'static str),
+    Read(u64, u32),
+    Complete(u64),
+    Terminate(u64),
     Deliver,
     End,
 }
 
-/// What that answers, but for its events.
-#[derive(Clone, Copy)]
-enum Told {
-    Done,
-    Made(ChannelKey),
-    Bytes(&'static [u8]),
-    Refused(Refusal),
-    Delivered(u64),
-    Ended,
-}
+/// A side, what it does, what that answers, with its events, and the bytes that the side emits. Texts and numbers alone:
+/// a table of nested values costs ten times as much proof.
+type Row = (Side, Move, &'static str, &'static [u8]);
 
-/// A step, what it answers, with which events, and the bytes that its side emits.
-#[derive(Clone, Copy)]
-struct Row {
-    side: Side,
-    makes: Move,
-    told: Told,
-    events: &'static [EndEvent],
-    emits: &'static [u8],
-}
-
-macro_rules! row {
-    ($side:ident: $makes:expr => $told:expr, [$($event:expr),*], $emits:expr) => {
-        Row {
-            side: Side::$side,
-            makes: $makes,
-            told: $told,
-            events: &[$($event),*],
-            emits: $emits,
-        }
-    };
-}
+/// The offer of `a` with window 8.
+const OFFER: &[u8] = b"\x94\x00\x01\x01\xc4\x04\x92\xa1\x61\x08";
 
 /// A channel is made live, with the windows 8 of A and 4 of B.
-const LIVE: [Row; 4] = [
-    row!(A: Move::Offer("a", 8) => Told::Made(FIRST), [], OFFER),
-    row!(B: Move::Deliver => Told::Delivered(10), [EndEvent::Mux(MuxEvent::Offered(FIRST_AT_B))], b""),
-    row!(B: Move::Accept(FIRST_AT_B, 4) => Told::Done, [], b"\x94\x01\x01\xff\xc4\x02\x91\x04"),
-    row!(A: Move::Deliver => Told::Delivered(8), [EndEvent::Mux(MuxEvent::Accepted(FIRST))], b""),
-];
+fn live() -> [Row; 4] {
+    [
+        (
+            Side::A,
+            Move::Offer(8),
+            "Made(ChannelKey { id: 1, own: true }) []",
+            OFFER,
+        ),
+        (
+            Side::B,
+            Move::Deliver,
+            "10 [Mux(Offered(ChannelKey { id: 1, own: false }))]",
+            b"",
+        ),
+        (
+            Side::B,
+            Move::Accept(1, 4),
+            "Done []",
+            b"\x94\x01\x01\xff\xc4\x02\x91\x04",
+        ),
+        (
+            Side::A,
+            Move::Deliver,
+            "8 [Mux(Accepted(ChannelKey { id: 1, own: true }))]",
+            b"",
+        ),
+    ]
+}
 
 /// On it content goes as far as the window and what was acknowledged.
-const CREDIT: [Row; 6] = [
-    row!(A: Move::Write(FIRST, b"hello") => Told::Done, [], b"\x94\x02\x01\x01\xc4\x04hell"),
-    row!(B: Move::Deliver => Told::Delivered(10), [EndEvent::Mux(MuxEvent::Content(FIRST_AT_B, 4))], b""),
-    row!(B: Move::Read(FIRST_AT_B, 2) => Told::Bytes(b"he"), [], b"\x94\x05\x01\xff\xc4\x02\x91\x02"),
-    row!(A: Move::Deliver => Told::Delivered(8), [EndEvent::Mux(MuxEvent::Credit(FIRST, 2))], b"\x94\x02\x01\x01\xc4\x01o"),
-    row!(B: Move::Deliver => Told::Delivered(7), [EndEvent::Mux(MuxEvent::Content(FIRST_AT_B, 1))], b""),
-    row!(B: Move::Read(FIRST_AT_B, 10) => Told::Bytes(b"llo"), [], b"\x94\x05\x01\xff\xc4\x02\x91\x03"),
-];
+fn credit() -> [Row; 6] {
+    [
+        (
+            Side::A,
+            Move::Write(1, "hello"),
+            "Done []",
+            b"\x94\x02\x01\x01\xc4\x04hell",
+        ),
+        (
+            Side::B,
+            Move::Deliver,
+            "10 [Mux(Content(ChannelKey { id: 1, own: false }, 4))]",
+            b"",
+        ),
+        (
+            Side::B,
+            Move::Read(1, 2),
+            "he []",
+            b"\x94\x05\x01\xff\xc4\x02\x91\x02",
+        ),
+        (
+            Side::A,
+            Move::Deliver,
+            "8 [Mux(Credit(ChannelKey { id: 1, own: true }, 2))]",
+            b"\x94\x02\x01\x01\xc4\x01o",
+        ),
+        (
+            Side::B,
+            Move::Deliver,
+            "7 [Mux(Content(ChannelKey { id: 1, own: false }, 1))]",
+            b"",
+        ),
+        (
+            Side::B,
+            Move::Read(1, 10),
+            "llo []",
+            b"\x94\x05\x01\xff\xc4\x02\x91\x03",
+        ),
+    ]
+}
 
 /// Terminated by A, while content of B is on its way.
-const CROSSING: [Row; 6] = [
-    row!(A: Move::Terminate(FIRST) => Told::Done, [], b"\x93\x04\x01\x01"),
-    row!(B: Move::Write(FIRST_AT_B, b"x") => Told::Done, [], b"\x94\x02\x01\xff\xc4\x01x"),
-    row!(A: Move::Deliver => Told::Delivered(7), [EndEvent::Mux(MuxEvent::Ignored(FIRST))], b""),
-    row!(B: Move::Deliver => Told::Delivered(4), [EndEvent::Mux(MuxEvent::Closed(FIRST_AT_B))], b"\x93\x04\x01\xff"),
-    row!(A: Move::Deliver => Told::Delivered(4), [EndEvent::Mux(MuxEvent::Closed(FIRST))], b""),
-    row!(A: Move::Write(FIRST, b"\x00") => Told::Refused(Refusal::NoChannel), [], b""),
-];
+fn crossing() -> [Row; 6] {
+    [
+        (Side::A, Move::Terminate(1), "Done []", b"\x93\x04\x01\x01"),
+        (
+            Side::B,
+            Move::Write(1, "x"),
+            "Done []",
+            b"\x94\x02\x01\xff\xc4\x01x",
+        ),
+        (
+            Side::A,
+            Move::Deliver,
+            "7 [Mux(Ignored(ChannelKey { id: 1, own: true }))]",
+            b"",
+        ),
+        (
+            Side::B,
+            Move::Deliver,
+            "4 [Mux(Closed(ChannelKey { id: 1, own: false }))]",
+            b"\x93\x04\x01\xff",
+        ),
+        (
+            Side::A,
+            Move::Deliver,
+            "4 [Mux(Closed(ChannelKey { id: 1, own: true }))]",
+            b"",
+        ),
+        (Side::A, Move::Write(1, "x"), "Refused(NoChannel) []", b""),
+    ]
+}
 
 /// Completed by both.
-const COMPLETIONS: [Row; 5] = [
-    row!(A: Move::Complete(FIRST) => Told::Done, [], b"\x93\x03\x01\x01"),
-    row!(B: Move::Complete(FIRST_AT_B) => Told::Done, [], b"\x93\x03\x01\xff"),
-    row!(B: Move::Deliver => Told::Delivered(4), [EndEvent::Mux(MuxEvent::Completed(FIRST_AT_B))], b"\x93\x04\x01\xff"),
-    row!(A: Move::Deliver => Told::Delivered(8), [EndEvent::Mux(MuxEvent::Completed(FIRST)), EndEvent::Mux(MuxEvent::Closed(FIRST))], b"\x93\x04\x01\x01"),
-    row!(B: Move::Deliver => Told::Delivered(4), [EndEvent::Mux(MuxEvent::Closed(FIRST_AT_B))], b""),
-];
-
-const INPUT_ENDED: Told = Told::Refused(Refusal::Ended(Cause::InputEnded));
+fn completions() -> [Row; 5] {
+    [
+        (Side::A, Move::Complete(1), "Done []", b"\x93\x03\x01\x01"),
+        (Side::B, Move::Complete(1), "Done []", b"\x93\x03\x01\xff"),
+        (
+            Side::B,
+            Move::Deliver,
+            "4 [Mux(Completed(ChannelKey { id: 1, own: false }))]",
+            b"\x93\x04\x01\xff",
+        ),
+        (
+            Side::A,
+            Move::Deliver,
+            "8 [Mux(Completed(ChannelKey { id: 1, own: true })), Mux(Closed(ChannelKey { id: 1, own: true }))]",
+            b"\x93\x04\x01\x01",
+        ),
+        (
+            Side::B,
+            Move::Deliver,
+            "4 [Mux(Closed(ChannelKey { id: 1, own: false }))]",
+            b"",
+        ),
+    ]
+}
 
 /// The stream into B ends, later that into A.
-const ENDS: [Row; 8] = [
-    row!(A: Move::Write(FIRST, b"hello") => Told::Done, [], b"\x94\x02\x01\x01\xc4\x04hell"),
-    row!(B: Move::End => Told::Ended, [], b""),
-    row!(B: Move::Deliver => Told::Delivered(0), [], b""),
-    row!(B: Move::Read(FIRST_AT_B, 10) => Told::Bytes(b""), [], b""),
-    row!(B: Move::Terminate(FIRST_AT_B) => INPUT_ENDED, [], b""),
-    row!(A: Move::Terminate(FIRST) => Told::Done, [], b"\x93\x04\x01\x01"),
-    row!(A: Move::End => Told::Ended, [], b""),
-    row!(A: Move::Complete(FIRST) => INPUT_ENDED, [], b""),
-];
+fn ends() -> [Row; 8] {
+    [
+        (
+            Side::A,
+            Move::Write(1, "hello"),
+            "Done []",
+            b"\x94\x02\x01\x01\xc4\x04hell",
+        ),
+        (Side::B, Move::End, "ended", b""),
+        (Side::B, Move::Deliver, "0 []", b""),
+        (Side::B, Move::Read(1, 10), " []", b""),
+        (
+            Side::B,
+            Move::Terminate(1),
+            "Refused(Ended(InputEnded)) []",
+            b"",
+        ),
+        (Side::A, Move::Terminate(1), "Done []", b"\x93\x04\x01\x01"),
+        (Side::A, Move::End, "ended", b""),
+        (
+            Side::A,
+            Move::Complete(1),
+            "Refused(Ended(InputEnded)) []",
+            b"",
+        ),
+    ]
+}
 
 /// In version 2, where A has the greater nonce.
-const GREETINGS: [Row; 3] = [
-    row!(A: Move::Deliver => Told::Delivered(22), [EndEvent::Mux(MuxEvent::Ready)], b""),
-    row!(B: Move::Deliver => Told::Delivered(22), [EndEvent::Mux(MuxEvent::Ready)], b""),
-    row!(A: Move::Offer("a", 8) => Told::Made(FIRST), [], b"\x93\x00\x01\xc4\x04\x92\xa1\x61\x08"),
-];
-
-const SAME_NONCE: Cause = Cause::Refused(Place(6), Reason::SameNonce);
+fn greetings() -> [Row; 3] {
+    [
+        (Side::A, Move::Deliver, "22 [Mux(Ready)]", b""),
+        (Side::B, Move::Deliver, "22 [Mux(Ready)]", b""),
+        (
+            Side::A,
+            Move::Offer(8),
+            "Made(ChannelKey { id: 1, own: true }) []",
+            b"\x93\x00\x01\xc4\x04\x92\xa1\x61\x08",
+        ),
+    ]
+}
 
 /// In version 2, where both have the same nonce.
-const SAME_NONCES: [Row; 2] = [
-    row!(B: Move::Deliver => Told::Delivered(22), [EndEvent::Ended(SAME_NONCE)], b""),
-    row!(B: Move::Offer("a", 8) => Told::Refused(Refusal::Ended(SAME_NONCE)), [], b""),
-];
+fn same_nonces() -> [Row; 2] {
+    [
+        (
+            Side::B,
+            Move::Deliver,
+            "22 [Ended(Refused(Place(6), SameNonce))]",
+            b"",
+        ),
+        (
+            Side::B,
+            Move::Offer(8),
+            "Refused(Ended(Refused(Place(6), SameNonce))) []",
+            b"",
+        ),
+    ]
+}
 
 /// Two live channels, of which B gave the first the window 1.
-const TWO: [Row; 7] = [
-    row!(A: Move::Offer("a", 8) => Told::Made(FIRST), [], OFFER),
-    row!(A: Move::Offer("a", 8) => Told::Made(SECOND), [], b"\x94\x00\x02\x01\xc4\x04\x92\xa1\x61\x08"),
-    row!(B: Move::Deliver => Told::Delivered(20), [EndEvent::Mux(MuxEvent::Offered(FIRST_AT_B)), EndEvent::Mux(MuxEvent::Offered(SECOND_AT_B))], b""),
-    row!(B: Move::Accept(FIRST_AT_B, 1) => Told::Done, [], b"\x94\x01\x01\xff\xc4\x02\x91\x01"),
-    row!(B: Move::Accept(SECOND_AT_B, 102_400) => Told::Done, [], b"\x94\x01\x02\xff\xc4\x06\x91\xce\x00\x01\x90\x00"),
-    row!(A: Move::Deliver => Told::Delivered(20), [EndEvent::Mux(MuxEvent::Accepted(FIRST)), EndEvent::Mux(MuxEvent::Accepted(SECOND))], b""),
-    row!(A: Move::Write(FIRST, b"ab") => Told::Done, [], b"\x94\x02\x01\x01\xc4\x01a"),
-];
+fn two() -> [Row; 7] {
+    [
+        (
+            Side::A,
+            Move::Offer(8),
+            "Made(ChannelKey { id: 1, own: true }) []",
+            OFFER,
+        ),
+        (
+            Side::A,
+            Move::Offer(8),
+            "Made(ChannelKey { id: 2, own: true }) []",
+            b"\x94\x00\x02\x01\xc4\x04\x92\xa1\x61\x08",
+        ),
+        (
+            Side::B,
+            Move::Deliver,
+            "20 [Mux(Offered(ChannelKey { id: 1, own: false })), Mux(Offered(ChannelKey { id: 2, own: false }))]",
+            b"",
+        ),
+        (
+            Side::B,
+            Move::Accept(1, 1),
+            "Done []",
+            b"\x94\x01\x01\xff\xc4\x02\x91\x01",
+        ),
+        (
+            Side::B,
+            Move::Accept(2, 102_400),
+            "Done []",
+            b"\x94\x01\x02\xff\xc4\x06\x91\xce\x00\x01\x90\x00",
+        ),
+        (
+            Side::A,
+            Move::Deliver,
+            "20 [Mux(Accepted(ChannelKey { id: 1, own: true })), Mux(Accepted(ChannelKey { id: 2, own: true }))]",
+            b"",
+        ),
+        (
+            Side::A,
+            Move::Write(1, "ab"),
+            "Done []",
+            b"\x94\x02\x01\x01\xc4\x01a",
+        ),
+    ]
+}
+
+fn key(side: Side, id: u64) -> ChannelKey {
+    ChannelKey {
+        id,
+        own: side == Side::A,
+    }
+}
+
+fn call_of(alloc: Global, side: Side, makes: Move) -> Result<Option<Call>, OutOfMemory> {
+    let call = match makes {
+        Move::Offer(window) => Call::Offer(Text::from_str(alloc, "a")?, window),
+        Move::Accept(id, window) => Call::Accept(key(side, id), window),
+        Move::Write(id, text) => {
+            Call::Write(key(side, id), Blob::from_bytes(alloc, text.as_bytes())?)
+        }
+        Move::Read(id, max) => Call::Read(key(side, id), max),
+        Move::Complete(id) => Call::Complete(key(side, id)),
+        Move::Terminate(id) => Call::Terminate(key(side, id)),
+        Move::Deliver | Move::End => return Ok(None),
+    };
+    Ok(Some(call))
+}
 
 fn step_of(alloc: Global, side: Side, makes: Move) -> Result<Step, OutOfMemory> {
-    let call = match makes {
-        Move::Offer(name, window) => Call::Offer(Text::from_str(alloc, name)?, window),
-        Move::Accept(key, window) => Call::Accept(key, window),
-        Move::Write(key, bytes) => Call::Write(key, Blob::from_bytes(alloc, bytes)?),
-        Move::Read(key, max) => Call::Read(key, max),
-        Move::Complete(key) => Call::Complete(key),
-        Move::Terminate(key) => Call::Terminate(key),
-        Move::Deliver => return Ok(Step::Deliver(side, ALL)),
-        Move::End => return Ok(Step::End(side)),
-    };
-    Ok(Step::Call(side, call))
-}
-
-fn is_reply(reply: &Reply, told: Told) -> bool {
-    match (reply, told) {
-        (Reply::Done, Told::Done) => true,
-        (Reply::Made(key), Told::Made(other)) => *key == other,
-        (Reply::Bytes(bytes), Told::Bytes(other)) => bytes.as_bytes() == other,
-        (Reply::Refused(refusal), Told::Refused(other)) => *refusal == other,
-        _ => false,
+    match (makes, call_of(alloc, side, makes)?) {
+        (_, Some(call)) => Ok(Step::Call(side, call)),
+        (Move::End, None) => Ok(Step::End(side)),
+        (_, None) => Ok(Step::Deliver(side, ALL)),
     }
 }
 
-fn is_answer(answer: &DuoAnswer, told: Told, expected: &[EndEvent]) -> bool {
-    match (answer, told) {
-        (DuoAnswer::Delivered(count, events), Told::Delivered(other)) => {
-            *count == other && events.as_slice() == expected
+fn reply_told(alloc: Global, reply: &Reply) -> Result<String, Fail> {
+    match reply {
+        Reply::Bytes(bytes) => {
+            let text = str::from_utf8(bytes.as_bytes()).unwrap_or("no text");
+            Ok(String::from_str(alloc, text)?)
         }
-        (DuoAnswer::Replied(reply, events), told) => {
-            is_reply(reply, told) && events.as_slice() == expected
-        }
-        (DuoAnswer::Ended, Told::Ended) => true,
-        _ => false,
+        _ => Ok(format!(in alloc; "{reply:?}")?),
     }
+}
+
+fn call_told(alloc: Global, reply: &Reply, events: &EventList) -> Result<String, Fail> {
+    let first = reply_told(alloc, reply)?;
+    Ok(format!(in alloc; "{first} {:?}", events.as_slice())?)
+}
+
+fn delivery_told(alloc: Global, count: u64, events: &EventList) -> Result<String, Fail> {
+    Ok(format!(in alloc; "{count} {:?}", events.as_slice())?)
+}
+
+fn word(alloc: Global, word: &str) -> Result<String, Fail> {
+    Ok(String::from_str(alloc, word)?)
+}
+
+/// What an answer tells, in a text.
+fn told(alloc: Global, answer: &DuoAnswer) -> Result<String, Fail> {
+    match answer {
+        DuoAnswer::Replied(reply, events) => call_told(alloc, reply, events),
+        DuoAnswer::Delivered(count, events) => delivery_told(alloc, *count, events),
+        DuoAnswer::Ended => word(alloc, "ended"),
+        DuoAnswer::OutOfMemory => word(alloc, "out of memory"),
+    }
+}
+
+fn world(alloc: Global, version: Version, nonces: [[u8; 16]; 2]) -> Result<Duo, OutOfMemory> {
+    Duo::start(alloc, version, nonces)
+}
+
+fn make(duo: &mut Duo, step: Step) -> DuoAnswer {
+    duo.step(step)
+}
+
+/// How many bytes are in flight to a side.
+fn flight(duo: &Duo, side: Side) -> usize {
+    duo.in_flight(side).len()
+}
+
+/// Whether behind so many bytes in flight to a side these are the last.
+fn has_emitted(duo: &Duo, side: Side, before: usize, bytes: &[u8]) -> bool {
+    duo.in_flight(side).get(before..) == Some(bytes)
 }
 
 fn other(side: Side) -> Side {
@@ -189,18 +357,15 @@ fn other(side: Side) -> Side {
     }
 }
 
-fn holds(alloc: Global, duo: &mut Duo, row: &Row) -> Result<bool, OutOfMemory> {
-    let to = other(row.side);
-    let before = duo.in_flight(to).len();
-    let answer = duo.step(step_of(alloc, row.side, row.makes)?);
-    Ok(
-        is_answer(&answer, row.told, row.events)
-            && duo.in_flight(to).get(before..) == Some(row.emits),
-    )
+fn holds(alloc: Global, duo: &mut Duo, row: &Row) -> Result<bool, Fail> {
+    let (side, makes, wanted, emits) = *row;
+    let before = flight(duo, other(side));
+    let answer = make(duo, step_of(alloc, side, makes)?);
+    Ok(told(alloc, &answer)?.as_str() == wanted && has_emitted(duo, other(side), before, emits))
 }
 
 /// The first of the rows that doesn't hold.
-fn first_wrong(alloc: Global, duo: &mut Duo, rows: &[Row]) -> Result<Option<usize>, OutOfMemory> {
+fn first_wrong(alloc: Global, duo: &mut Duo, rows: &[Row]) -> Result<Option<usize>, Fail> {
     for (i, row) in rows.iter().enumerate() {
         if !holds(alloc, duo, row)? {
             return Ok(Some(i));
@@ -210,27 +375,25 @@ fn first_wrong(alloc: Global, duo: &mut Duo, rows: &[Row]) -> Result<Option<usiz
 }
 
 /// The first wrong one of rows that begin with one live channel.
-fn wrong_on_channel(alloc: Global, rows: &[Row]) -> Result<Option<usize>, OutOfMemory> {
-    let mut duo = Duo::start(alloc, Version::Three, [[0; 16]; 2])?;
-    first_wrong(alloc, &mut duo, &LIVE)?;
+fn wrong_on_channel(alloc: Global, rows: &[Row]) -> Result<Option<usize>, Fail> {
+    let mut duo = world(alloc, Version::Three, [[0; 16]; 2])?;
+    first_wrong(alloc, &mut duo, &live())?;
     first_wrong(alloc, &mut duo, rows)
 }
 
 #[test]
 fn rows_on_one_channel(rt: HostRuntime) -> Result<(), Fail> {
-    for rows in [&CREDIT[..], &CROSSING[..], &COMPLETIONS[..], &ENDS[..]] {
-        assert_eq!(rt; wrong_on_channel(rt.alloc(), rows)?, None);
-    }
+    let alloc = rt.alloc();
+    assert_eq!(rt; wrong_on_channel(alloc, &credit())?, None);
+    assert_eq!(rt; wrong_on_channel(alloc, &crossing())?, None);
+    assert_eq!(rt; wrong_on_channel(alloc, &completions())?, None);
+    assert_eq!(rt; wrong_on_channel(alloc, &ends())?, None);
     Ok(())
 }
 
 /// The first wrong one of rows that two ends of version 2 begin.
-fn wrong_in_two(
-    alloc: Global,
-    nonces: [[u8; 16]; 2],
-    rows: &[Row],
-) -> Result<Option<usize>, OutOfMemory> {
-    let mut duo = Duo::start(alloc, Version::Two, nonces)?;
+fn wrong_in_two(alloc: Global, nonces: [[u8; 16]; 2], rows: &[Row]) -> Result<Option<usize>, Fail> {
+    let mut duo = world(alloc, Version::Two, nonces)?;
     first_wrong(alloc, &mut duo, rows)
 }
 
@@ -238,16 +401,12 @@ fn wrong_in_two(
 fn rows_of_version_two(rt: HostRuntime) -> Result<(), Fail> {
     let alloc = rt.alloc();
     let nonce = [0, 1, 2, 3, 4, 5, 6, 7, 8, 9, 10, 11, 12, 13, 14, 15];
-    assert_eq!(rt; wrong_in_two(alloc, [[1; 16], [0; 16]], &GREETINGS)?, None);
-    assert_eq!(rt; wrong_in_two(alloc, [nonce, nonce], &SAME_NONCES)?, None);
+    assert_eq!(rt;
+        wrong_in_two(alloc, [[1; 16], [0; 16]], &greetings())?,
+        None
+    );
+    assert_eq!(rt; wrong_in_two(alloc, [nonce, nonce], &same_nonces())?, None);
     Ok(())
-}
-
-fn make(duo: &mut Duo, step: Step) -> Result<(), OutOfMemory> {
-    match duo.step(step) {
-        DuoAnswer::OutOfMemory => Err(OutOfMemory),
-        _ => Ok(()),
-    }
 }
 
 /// Adds so many bytes `z`.
@@ -270,19 +429,19 @@ fn two_frames(alloc: Global) -> Result<Vec<u8>, OutOfMemory> {
 fn write_many(alloc: Global) -> Result<Call, OutOfMemory> {
     let mut bytes = Vec::new(alloc);
     fill(&mut bytes, 30_000)?;
-    Ok(Call::Write(SECOND, Blob::from_bytes(alloc, &bytes)?))
+    Ok(Call::Write(key(Side::A, 2), Blob::from_bytes(alloc, &bytes)?))
 }
 
 /// A channel that lacks credit holds up no other, on which 30,000 bytes go in two frames.
-fn splits(alloc: Global) -> Result<bool, OutOfMemory> {
-    let mut duo = Duo::start(alloc, Version::Three, [[0; 16]; 2])?;
-    if first_wrong(alloc, &mut duo, &TWO)?.is_some() {
+fn splits(alloc: Global) -> Result<bool, Fail> {
+    let mut duo = world(alloc, Version::Three, [[0; 16]; 2])?;
+    if first_wrong(alloc, &mut duo, &two())?.is_some() {
         return Ok(false);
     }
     let frames = two_frames(alloc)?;
-    let before = duo.in_flight(Side::B).len();
-    make(&mut duo, Step::Call(Side::A, write_many(alloc)?))?;
-    Ok(duo.in_flight(Side::B).get(before..) == Some(frames.as_slice()))
+    let before = flight(&duo, Side::B);
+    make(&mut duo, Step::Call(Side::A, write_many(alloc)?));
+    Ok(has_emitted(&duo, Side::B, before, &frames))
 }
 
 #[test]
@@ -292,11 +451,10 @@ fn channels_are_apart(rt: HostRuntime) -> Result<(), Fail> {
 }
 
 /// Delivers all bytes in flight to a side, so many at once.
-fn deliver_all(duo: &mut Duo, side: Side, count: u64) -> Result<(), OutOfMemory> {
-    for _ in 0..duo.in_flight(side).len() {
-        make(duo, Step::Deliver(side, count))?;
+fn deliver_all(duo: &mut Duo, side: Side, count: u64) {
+    for _ in 0..flight(duo, side) {
+        make(duo, Step::Deliver(side, count));
     }
-    Ok(())
 }
 
 /// Makes the steps of these rows, and delivers so many bytes at once where a row delivers.
@@ -306,24 +464,27 @@ fn make_in_parts(
     rows: &[Row],
     count: u64,
 ) -> Result<(), OutOfMemory> {
-    for row in rows {
-        match row.makes {
-            Move::Deliver => deliver_all(duo, row.side, count)?,
-            makes => make(duo, step_of(alloc, row.side, makes)?)?,
+    for (side, makes, _, _) in rows {
+        match makes {
+            Move::Deliver => deliver_all(duo, *side, count),
+            makes => {
+                make(duo, step_of(alloc, *side, *makes)?);
+            }
         }
     }
     Ok(())
 }
 
+fn tally(duo: &Duo, side: Side) -> Option<Tally> {
+    duo.end(side).tally(key(side, 1))
+}
+
 /// The tallies of the channel at A and at B, after its content was delivered in parts.
 fn tallies(alloc: Global, count: u64) -> Result<(Option<Tally>, Option<Tally>), OutOfMemory> {
-    let mut duo = Duo::start(alloc, Version::Three, [[0; 16]; 2])?;
-    make_in_parts(alloc, &mut duo, &LIVE, count)?;
-    make_in_parts(alloc, &mut duo, &CREDIT, count)?;
-    Ok((
-        duo.end(Side::A).tally(FIRST),
-        duo.end(Side::B).tally(FIRST_AT_B),
-    ))
+    let mut duo = world(alloc, Version::Three, [[0; 16]; 2])?;
+    make_in_parts(alloc, &mut duo, &live(), count)?;
+    make_in_parts(alloc, &mut duo, &credit(), count)?;
+    Ok((tally(&duo, Side::A), tally(&duo, Side::B)))
 }
 
 #[test]
@@ -348,16 +509,24 @@ fn bytes_one_by_one_leave_the_same(rt: HostRuntime) -> Result<(), Fail> {
     Ok(())
 }
 
-fn run_of_one(alloc: Global) -> Result<Duo, OutOfMemory> {
+fn one_step(alloc: Global) -> Result<StepList, OutOfMemory> {
     let mut steps = StepList::new(alloc);
-    steps.push(step_of(alloc, Side::A, Move::Offer("a", 8))?)?;
+    steps.push(step_of(alloc, Side::A, Move::Offer(8))?)?;
+    Ok(steps)
+}
+
+fn run(alloc: Global, steps: StepList) -> Result<Duo, OutOfMemory> {
     Duo::run(alloc, Version::Three, [[0; 16]; 2], steps)
+}
+
+/// Whether a run of an offer alone leaves that in flight, and to its side nothing.
+fn runs_one(alloc: Global) -> Result<bool, OutOfMemory> {
+    let duo = run(alloc, one_step(alloc)?)?;
+    Ok(has_emitted(&duo, Side::A, 0, b"") && has_emitted(&duo, Side::B, 0, OFFER))
 }
 
 #[test]
 fn stored_steps_run(rt: HostRuntime) -> Result<(), Fail> {
-    let duo = run_of_one(rt.alloc())?;
-    assert_eq!(rt; duo.in_flight(Side::A), b"".as_slice());
-    assert_eq!(rt; duo.in_flight(Side::B), OFFER);
+    assert!(rt; runs_one(rt.alloc())?);
     Ok(())
 }
