@@ -1,0 +1,296 @@
+-- What an end answers to calls.
+use Rattle.std.specs.Prelude.{ℕ, List, [], ◌∷◌, ◌+◌, length, Bool, true, false, nat_le, if◌then◌else◌, Option, Some, None, Result, Ok, Err, OnOk}
+use Rattle.std.specs.List.{list_all, list_any}
+use Rattle.std.proofs.Common.{◌≡◌, refl, sym, ◌∙◌, ap, subst}
+use Rattle.std.proofs.lemmas.Bool.{and_parts}
+use Rattle.std.proofs.lemmas.List.{append-nil}
+use Rattle.call_table.specs.Replies.{Does, full_refusal, unless_there}
+use Rattle.call_table.specs.Stands.{StandsDrawn, TableStands, asked_as}
+use Rattle.call_table.specs.Table.{TableValue, look_in, with_kept}
+use Rattle.call_table.specs.declared.entry.Kept.TheVariants.{Forgotten}
+use Rattle.call_table.proofs.Passing.{tell_leaves}
+use Rattle.call_table.proofs.Reading.{looks}
+use Rattle.message_body.specs.Replies.{Writes}
+use Rattle.message_body.specs.Written.{encoder}
+use Rattle.rpc_items.specs.declared.calls.Answer.{Answer}
+use Rattle.rpc_items.specs.declared.calls.Answer.TheVariants as answer
+use Rattle.rpc_items.specs.declared.calls.Arg.{Arg}
+use Rattle.rpc_items.specs.declared.calls.Arg.TheVariants as arg
+use Rattle.rpc_items.specs.declared.calls.Arguments.{Arguments}
+use Rattle.rpc_items.specs.declared.calls.Expect.{Expect}
+use Rattle.rpc_items.specs.declared.messages.Message.{Message}
+use Rattle.rpc_items.specs.declared.messages.Message.TheVariants.{Request, Notification}
+use Rattle.rpc_items.specs.Arguments.{args_refusal, handed, most_drawn, needs_request}
+use Rattle.rpc_items.specs.Bodies.{Encoder, first_refusal, or_else}
+use Rattle.rpc_items.specs.Drawn.{arg_list, drawn, has_progress_arg}
+use Rattle.rpc_items.specs.Ids.{numbered_id}
+use Rattle.rpc_items.specs.Items.{RpcCall, Ask, Tell, Respond, Invoke, Forget, RpcItem, Did, Got, End, ended}
+use Rattle.rpc_items.specs.Made.{last_handle, made, made_in, made_by}
+use Rattle.rpc_items.specs.Outcomes.{is_known, outcome}
+use Rattle.rpc_items.specs.Refusals.{answer_refusal, call_refusal, is_of_the_past, reserved_refusal, said_refusal, state_refusal, unless_ended}
+use Rattle.rpc_items.specs.Saying.{asks_next, params_of, response, said}
+use Rattle.wire_base.specs.declared.fault.CallFault.{CallFault}
+use Rattle.wire_base.specs.declared.fault.CallFault.TheVariants as fault
+use Rattle.wire_base.specs.declared.refusal.Refusal.{Refusal}
+use Rattle.wire_base.specs.declared.refusal.Refusal.TheVariants as refusal
+use Rattle.wire_base.specs.declared.state.Cause.{Cause}
+use Rattle.wire_base.specs.declared.state.EndState.{EndState}
+use Rattle.wire_base.specs.declared.state.EndState.TheVariants as state
+use Rattle.wire_base.specs.declared.text.Id.{Id}
+use Rattle.rpc_end.specs.Built.{are_built, are_plain, is_built, is_built_item, is_plain_answer, is_plain_arg}
+use Rattle.rpc_end.specs.Calls.{Calls, Prepares, finished, member_refusal, plain_refusal, reply_refusal, running_refusal}
+use Rattle.rpc_end.specs.Ends.{Makes, with_said, with_table}
+use Rattle.rpc_end.specs.Replies.{Adds, Answers, CallAnswers, early_refusal}
+use Rattle.rpc_end.specs.Stands.{RpcStands, RpcValue, state_by}
+
+-- arguments that are all values ask for no progress, hand over no handle and offer no object
+pub plain_progress : (args : List Arg) → list_all is_plain_arg args ≡ true → has_progress_arg args ≡ false
+plain_progress [] p = refl
+plain_progress (arg.Plain value ∷ args) p = plain_progress args p
+plain_progress (arg.Progress ∷ args) p = absurd cc
+plain_progress (arg.Object object lifetime ∷ args) p = absurd cc
+plain_progress (arg.Handed handle ∷ args) p = absurd cc
+
+pub plain_needs : (args : List Arg) → list_all is_plain_arg args ≡ true → list_any needs_request args ≡ false
+plain_needs [] p = refl
+plain_needs (arg.Plain value ∷ args) p = plain_needs args p
+plain_needs (arg.Progress ∷ args) p = absurd cc
+plain_needs (arg.Object object lifetime ∷ args) p = absurd cc
+plain_needs (arg.Handed handle ∷ args) p = absurd cc
+
+plain_handed : (args : List Arg) → list_all is_plain_arg args ≡ true → handed args ≡ []
+plain_handed [] p = refl
+plain_handed (arg.Plain value ∷ args) p = plain_handed args p
+plain_handed (arg.Progress ∷ args) p = absurd cc
+plain_handed (arg.Object object lifetime ∷ args) p = absurd cc
+plain_handed (arg.Handed handle ∷ args) p = absurd cc
+
+plain_made : (request : Option ℕ) (args : List Arg) → list_all is_plain_arg args ≡ true → made_in request args ≡ []
+plain_made request [] p = refl
+plain_made request (arg.Plain value ∷ args) p = plain_made request args p
+plain_made request (arg.Progress ∷ args) p = absurd cc
+plain_made request (arg.Object object lifetime ∷ args) p = absurd cc
+plain_made request (arg.Handed handle ∷ args) p = absurd cc
+
+-- no built item offers an object
+call_makes : (n : ℕ) (call : RpcCall) → is_built call ≡ true → made_by n (Did call) ≡ []
+call_makes n (Ask method args expect) b = plain_made (Some n) (arg_list args) (and_parts _ _ b).0
+call_makes n (Tell method args) b = plain_made None (arg_list args) b
+call_makes n (Respond id (answer.Value value)) b = refl
+call_makes n (Respond id (answer.Object object)) b = absurd cc
+call_makes n (Respond id (answer.Sequence values page first)) b = refl
+call_makes n (Respond id (answer.Fault code text more)) b = refl
+call_makes n (Invoke handle method args expect) b = absurd cc
+call_makes n call b = refl
+
+item_makes : (n : ℕ) (item : RpcItem) → is_built_item item ≡ true → made_by n item ≡ []
+item_makes n (Did call) b = call_makes n call b
+item_makes n (Got place message) b = refl
+item_makes n (End cause) b = refl
+
+pub none_made : (items : List RpcItem) → are_built items ≡ true → made items ≡ []
+none_made [] b = refl
+none_made (item ∷ items) b =
+    let both = and_parts _ _ b in
+    let older : made items ≡ [] = none_made items both.1 in
+    let newest = item_makes _ item both.0 in
+    rw older newest
+
+-- plain arguments are refused for their members alone
+pub plain_args : (args : Arguments) (items : List RpcItem) → are_plain args ≡ true → are_built items ≡ true → args_refusal args items ≡ member_refusal args
+plain_args args items p b =
+    let none : made items ≡ [] = none_made items b in
+    let hands : handed (arg_list args) ≡ [] = plain_handed (arg_list args) p in
+    let offers : made_in None (arg_list args) ≡ [] = plain_made None (arg_list args) p in
+    simp (none, hands, offers)
+
+-- plain answers, whatever happened before
+pub plain_response : (id : Id) (given : Answer) (items : List RpcItem) → is_plain_answer given ≡ true → response id given [] ≡ response id given items
+plain_response id (answer.Value value) items p = refl
+plain_response id (answer.Fault code text more) items p = refl
+plain_response id (answer.Object object) items p = absurd cc
+plain_response id (answer.Sequence values page first) items p = absurd cc
+
+pub plain_reply : (given : Answer) (items : List RpcItem) → is_plain_answer given ≡ true → answer_refusal given [] ≡ answer_refusal given items
+plain_reply (answer.Value value) items p = refl
+plain_reply (answer.Fault code text more) items p = refl
+plain_reply (answer.Object object) items p = absurd cc
+plain_reply (answer.Sequence values page first) items p = absurd cc
+
+pub plain_said : (k : Encoder) (id : Id) (given : Answer) (items : List RpcItem) → is_plain_answer given ≡ true → said_refusal k (Respond id given) items ≡ first_refusal k (said (Did (Respond id given)) items)
+plain_said k id (answer.Value value) items p = refl
+plain_said k id (answer.Fault code text more) items p = refl
+plain_said k id (answer.Object object) items p = absurd cc
+plain_said k id (answer.Sequence values page first) items p = absurd cc
+
+-- an accepted call adds its item
+adds : (old now : RpcValue) (table : TableValue) (call : RpcCall) (items : List RpcItem) (at : ℕ) (rest : List ℕ) → RpcStands old items at rest → call_refusal (encoder old.terms.encoding) call items ≡ None → is_built call ≡ true
+    → now ≡ with_said (said (Did call) items) (with_table table old) → TableStands false now.table (Did call ∷ items) → Adds old now items at rest (Did call)
+adds old now table call items at rest s accepted built is t =
+    subst (λ (n : RpcValue). TableStands false n.table (Did call ∷ items) → Adds old n items at rest (Did call)) (sym is)
+    (λ stands. record {
+      stands = record { table = stands; at_is = s.at_is; rest_is = s.rest_is; state = s.state; allowed = (accepted, s.allowed); built = rw built s.built };
+      output = refl;
+      terms_stay = refl;
+    }) t
+
+module _ {A : Type 0} (old made : RpcValue) (table : TableValue) (call : RpcCall) (items : List RpcItem) (at : ℕ) (rest : List ℕ) (x : A) (IsAnswer : A → Type 0) where
+  answered : (early late : Option Refusal) (given : Result A CallFault) → RpcStands old items at rest → is_built call ≡ true → call_refusal (encoder old.terms.encoding) call items ≡ or_else early late
+      → OnOk given (TableStands false made.table (Did call ∷ items)) → IsAnswer x → Makes old made early late (with_said (said (Did call) items) (with_table table old)) x given
+      → CallAnswers old (finished given made) items at rest call (or_else early late) early IsAnswer given
+  answered None None (Ok y) s built law stands answer makes = (adds old made table call items at rest s law built makes.0 stands, subst IsAnswer (sym makes.1) answer)
+  answered None None (Err fault.OutOfMemory) s built law stands answer makes = refl
+  answered None None (Err (fault.Refused r)) s built law stands answer makes = absurd makes
+  answered None (Some t) (Ok y) s built law stands answer makes = absurd makes
+  answered None (Some t) (Err fault.OutOfMemory) s built law stands answer makes = refl
+  answered None (Some t) (Err (fault.Refused r)) s built law stands answer makes = makes
+  answered (Some t) late (Ok y) s built law stands answer makes = absurd makes
+  answered (Some t) late (Err fault.OutOfMemory) s built law stands answer makes = absurd makes
+  answered (Some t) late (Err (fault.Refused r)) s built law stands answer makes = makes
+
+no_end : (cause : Option Cause) (s : EndState) → s ≡ state_by cause → running_refusal s ≡ None → cause ≡ None
+no_end None s e running = refl
+no_end (Some cause) s e running = absurd (let t : running_refusal (state.Ended cause) ≡ None = ap running_refusal (sym e) ∙ running in cc)
+
+on_running : (past : Bool) (cause : Option Cause) (other now : Option Refusal) → past ≡ false → cause ≡ None → (if past then other else unless_ended cause now) ≡ now
+on_running false None other now p e = refl
+on_running false (Some cause) other now p e = absurd cc
+on_running true cause other now p e = absurd cc
+
+module _ {A : Type 0} (old made : RpcValue) (table : TableValue) (call : RpcCall) (items : List RpcItem) (at : ℕ) (rest : List ℕ) (x : A) (IsAnswer : A → Type 0) where
+  -- what a call of a running end makes answers it, once an end stops where memory ran out
+  pub call_answers : (new : RpcValue) (early : Option Refusal) (messages : List Message) (given result : Result A CallFault) → RpcStands old items at rest → running_refusal old.state ≡ None → is_of_the_past call ≡ false → is_built call ≡ true
+      → early ≡ state_refusal call items → messages ≡ said (Did call) items → said_refusal (encoder old.terms.encoding) call items ≡ first_refusal (encoder old.terms.encoding) (said (Did call) items)
+      → OnOk given (TableStands false made.table (Did call ∷ items)) → IsAnswer x → Calls old made early messages table x given → result ≡ given → new ≡ finished given made → Answers old new items at rest call IsAnswer result
+  call_answers new early messages given result s running past built early_is says late_is stands answer calls same finish =
+      let k : Encoder = encoder old.terms.encoding in
+      let late : Option Refusal = first_refusal k (said (Did call) items) in
+      let none = no_end (ended items) old.state s.state running in
+      let law : call_refusal k call items ≡ or_else early late = on_running (is_of_the_past call) (ended items) _ _ past none ∙ (λ i. or_else (sym early_is i) (late_is i)) in
+      let early_law : early_refusal call items ≡ early = on_running (is_of_the_past call) (ended items) _ _ past none ∙ sym early_is in
+      let makes = subst (λ (m : List Message). Makes old made early (first_refusal k m) (with_said m (with_table table old)) x given) says calls in
+      subst (λ (r : Result A CallFault). Answers old new items at rest call IsAnswer r) (sym same)
+      (subst (λ (n : RpcValue). Answers old n items at rest call IsAnswer given) (sym finish)
+      (subst (λ (o : Option Refusal). CallAnswers old (finished given made) items at rest call o (early_refusal call items) IsAnswer given) (sym law)
+      (subst (λ (o : Option Refusal). CallAnswers old (finished given made) items at rest call (or_else early late) o IsAnswer given) (sym early_law)
+      (answered old made table call items at rest x IsAnswer early late given s built law stands answer makes))))
+
+-- no call changes how an end writes and reads
+makes_terms : {A : Type 0} (old made now : RpcValue) (early late : Option Refusal) (x : A) (given : Result A CallFault) → now.terms ≡ old.terms → Makes old made early late now x given → made.terms ≡ old.terms
+makes_terms old made now None None x (Ok y) same makes = ap (λ (e : RpcValue). e.terms) makes.0 ∙ same
+makes_terms old made now None None x (Err fault.OutOfMemory) same makes = makes
+makes_terms old made now None None x (Err (fault.Refused r)) same makes = absurd makes
+makes_terms old made now None (Some t) x (Ok y) same makes = absurd makes
+makes_terms old made now None (Some t) x (Err fault.OutOfMemory) same makes = makes
+makes_terms old made now None (Some t) x (Err (fault.Refused r)) same makes = ap (λ (e : RpcValue). e.terms) makes.1
+makes_terms old made now (Some t) late x (Ok y) same makes = absurd makes
+makes_terms old made now (Some t) late x (Err fault.OutOfMemory) same makes = absurd makes
+makes_terms old made now (Some t) late x (Err (fault.Refused r)) same makes = ap (λ (e : RpcValue). e.terms) makes.1
+
+finished_terms : {A : Type 0} (made : RpcValue) (given : Result A CallFault) → (finished given made).terms ≡ made.terms
+finished_terms made (Ok y) = refl
+finished_terms made (Err fault.OutOfMemory) = refl
+finished_terms made (Err (fault.Refused r)) = refl
+
+pub calls_terms : {A : Type 0} (old made new : RpcValue) (early : Option Refusal) (messages : List Message) (table : TableValue) (x : A) (given : Result A CallFault) → Calls old made early messages table x given → new ≡ finished given made → new.terms ≡ old.terms
+calls_terms old made new early messages table x given calls finish = ap (λ (e : RpcValue). e.terms) finish ∙ (finished_terms made given ∙ makes_terms old made _ early _ x given refl calls)
+
+-- a call whose text isn't written
+unprepared_by : {A : Type 0} (B : Type 0) (old now : RpcValue) (early late : Option Refusal) (x : A) (error : CallFault) → Prepares {A = B} early late (Err error) → Makes old old early late now x (Err error)
+unprepared_by B old now None None x fault.OutOfMemory why = refl
+unprepared_by B old now None None x (fault.Refused r) why = absurd cc
+unprepared_by B old now None (Some t) x fault.OutOfMemory why = refl
+unprepared_by B old now None (Some t) x (fault.Refused r) why = (cc, refl)
+unprepared_by B old now (Some t) late x fault.OutOfMemory why = absurd cc
+unprepared_by B old now (Some t) late x (fault.Refused r) why = (cc, refl)
+
+pub unprepared : {A B : Type 0} (old now : RpcValue) (early late : Option Refusal) (x : A) (error : CallFault) (text : Result B CallFault) → text ≡ Err error → Prepares early late text → Makes old old early late now x (Err error)
+unprepared {B = B} old now early late x error text is why = unprepared_by B old now early late x error (subst (λ (r : Result B CallFault). Prepares early late r) is why)
+
+-- a text that is written after the early refusals
+pub written : {A : Type 0} (early body : Option Refusal) (text : Result A CallFault) → early ≡ None → Writes body text → Prepares early (or_else body None) text
+written None None (Ok y) e w = (refl, refl)
+written None (Some t) (Ok y) e w = absurd cc
+written None body (Err fault.OutOfMemory) e w = refl
+written None None (Err (fault.Refused r)) e w = absurd cc
+written None (Some t) (Err (fault.Refused r)) e w = w
+written (Some t) body text e w = absurd cc
+
+-- requests
+chosen : (one two three : Option Refusal) → or_else (or_else one two) three ≡ or_else one (or_else two three)
+chosen None two three = refl
+chosen (Some r) two three = refl
+
+no_handle : (items : List RpcItem) → are_built items ≡ true → 0 ≡ last_handle items
+no_handle items b = sym (ap length (none_made items b))
+
+pub ask_early : (method : List ℕ) (args : Arguments) (expect : Expect) (table : TableValue) (items : List RpcItem) → are_plain args ≡ true → are_built items ≡ true → TableStands false table items → or_else (plain_refusal method args) (full_refusal table) ≡ state_refusal (Ask method args expect) items
+ask_early method args expect table items p b t =
+    let plain = plain_args args items p b in
+    chosen (reserved_refusal method) (member_refusal args) (full_refusal table) ∙ (λ i. or_else (reserved_refusal method) (or_else (sym plain i) (if nat_le most_drawn (t.count i) then Some refusal.TooManyRequests else None)))
+
+pub ask_says : (method : List ℕ) (args : Arguments) (table : TableValue) (items : List RpcItem) → are_built items ≡ true → TableStands false table items → asks_next (length table.requests + 1) method args [] ≡ asks_next (drawn items + 1) method args items
+ask_says method args table items b t = λ i. Request (numbered_id (t.count i + 1)) method (params_of (t.count i + 1) (no_handle items b i) args) ∷ []
+
+when_ok : {A P Q : Type 0} (given : Result A CallFault) → (P → Q) → OnOk given P → OnOk given Q
+when_ok (Ok y) f p = f p
+when_ok (Err e) f p = tt
+
+pub ask_stands : {A : Type 0} (given : Result A CallFault) (method : List ℕ) (args : Arguments) (expect : Expect) (table : TableValue) (items : List RpcItem) → are_plain args ≡ true → OnOk given (StandsDrawn expect false table items) → OnOk given (TableStands false table (Did (Ask method args expect) ∷ items))
+ask_stands given method args expect table items p drawn = when_ok given (λ stands. stands (Ask method args expect) None (ap (λ progress. asked_as expect progress None ∷ []) (plain_progress (arg_list args) p))) drawn
+
+-- notifications
+pub tell_early : (method : List ℕ) (args : Arguments) (items : List RpcItem) → are_plain args ≡ true → are_built items ≡ true → plain_refusal method args ≡ state_refusal (Tell method args) items
+tell_early method args items p b =
+    let plain = plain_args args items p b in
+    let needs = plain_needs (arg_list args) p in
+    λ i. or_else (reserved_refusal method) (or_else (if sym needs i then Some refusal.NeedsRequest else None) (sym plain i))
+
+pub tell_says : (method : List ℕ) (args : Arguments) (items : List RpcItem) → are_built items ≡ true → said (Did (Tell method args)) [] ≡ said (Did (Tell method args)) items
+tell_says method args items b = λ i. Notification method (params_of 0 (no_handle items b i) args) ∷ []
+
+made_so : {A : Type 0} (old made now : RpcValue) (early late : Option Refusal) (x : A) (given : Result A CallFault) → Makes old made early late now x given → OnOk given (made ≡ now)
+made_so old made now early late x (Err e) makes = tt
+made_so old made now None None x (Ok y) makes = makes.0
+made_so old made now None (Some t) x (Ok y) makes = absurd makes
+made_so old made now (Some t) late x (Ok y) makes = absurd makes
+
+pub tell_stands : {A : Type 0} (old made : RpcValue) (early : Option Refusal) (messages : List Message) (x : A) (given : Result A CallFault) (method : List ℕ) (args : Arguments) (items : List RpcItem) → TableStands false old.table items → Calls old made early messages old.table x given → OnOk given (TableStands false made.table (Did (Tell method args) ∷ items))
+tell_stands old made early messages x given method args items t calls =
+    when_ok given (λ is. subst (λ (e : RpcValue). TableStands false e.table (Did (Tell method args) ∷ items)) (sym is) (tell_leaves false old.table method args items t)) (made_so old made _ early _ x given calls)
+
+-- responses
+pub reply_early : (id : Id) (given : Answer) (table : TableValue) (items : List RpcItem) → is_plain_answer given ≡ true → TableStands false table items → reply_refusal id given table ≡ state_refusal (Respond id given) items
+reply_early id given table items p t = λ i. if t.waiting id i then plain_reply given items p i else Some refusal.NoRequest
+
+-- outcomes that are dropped
+there : (known : Bool) (old now next : TableValue) → Does {A = Unit {0}} (unless_there known) old now next (Ok tt) → known ≡ true
+there true old now next does = refl
+there false old now next does = absurd does
+
+known_law : (n : ℕ) (table : TableValue) (items : List RpcItem) → TableStands false table items → is_known (look_in n table) ≡ is_known (outcome false n items)
+known_law n table items t = ap is_known (looks false table items n t)
+
+module _ (end : RpcValue) (now : TableValue) (items : List RpcItem) (at : ℕ) (rest : List ℕ) (n : ℕ) where
+  was_there : (known : Bool) → known ≡ true → Adds end (with_table now end) items at rest (Did (Forget n))
+      → CallAnswers {A = Unit {0}} end (with_table now end) items at rest (Forget n) (if known then None else Some refusal.NoRequest) (if known then None else Some refusal.NoRequest) (λ _. Unit {0}) (Ok tt)
+  was_there true k more = (more, tt)
+  was_there false k more = absurd cc
+
+  pub forgets : RpcStands end items at rest → Does {A = Unit {0}} (unless_there (is_known (look_in n end.table))) end.table now (with_kept n Forgotten end.table) (Ok tt) → TableStands false now (Did (Forget n) ∷ items)
+      → Answers {A = Unit {0}} end (with_table now end) items at rest (Forget n) (λ _. Unit {0}) (Ok tt)
+  forgets s does t =
+      let known : is_known (outcome false n items) ≡ true = sym (known_law n end.table items s.table) ∙ there _ end.table now _ does in
+      let accepted : state_refusal (Forget n) items ≡ None = ap (λ b. if b then None else Some refusal.NoRequest) known in
+      was_there (is_known (outcome false n items)) known
+      (adds end (with_table now end) now (Forget n) items at rest s accepted refl (λ i. record (with_table now end) { output = sym (append-nil end.output) i }) t)
+
+  not_there : (known other : Bool) (next : TableValue) (r : Refusal) → known ≡ other → Does {A = Unit {0}} (unless_there known) end.table now next (Err r)
+      → CallAnswers {A = Unit {0}} end (with_table now end) items at rest (Forget n) (if other then None else Some refusal.NoRequest) (if other then None else Some refusal.NoRequest) (λ _. Unit {0}) (Err (fault.Refused r))
+  not_there true other next r e does = absurd does
+  not_there false true next r e does = absurd cc
+  not_there false false next r e does = (does.0, ap (λ (t : TableValue). with_table t end) does.1)
+
+  pub forget_fails : (r : Refusal) → RpcStands end items at rest → Does {A = Unit {0}} (unless_there (is_known (look_in n end.table))) end.table now (with_kept n Forgotten end.table) (Err r)
+      → Answers {A = Unit {0}} end (with_table now end) items at rest (Forget n) (λ _. Unit {0}) (Err (fault.Refused r))
+  forget_fails r s does = not_there _ _ _ r (known_law n end.table items s.table) does

@@ -1,0 +1,38 @@
+-- When an end stands for a list of items.
+use Rattle.std.specs.Prelude.{◌≡◌, ℕ, ◌+◌, List, length, true, false, Option, Some, None}
+use Rattle.call_table.specs.Stands.{TableStands}
+use Rattle.call_table.specs.Table.{TableValue}
+use Rattle.message_body.specs.Written.{encoder}
+use Rattle.rpc_items.specs.Allowed.{AreAllowed}
+use Rattle.rpc_items.specs.Items.{RpcItem, ended}
+use Rattle.wire_base.specs.declared.state.Cause.{Cause}
+use Rattle.wire_base.specs.declared.state.EndState.{EndState}
+use Rattle.wire_base.specs.declared.state.EndState.TheVariants as state
+use Rattle.rpc_end.specs.Built.{are_built}
+use Rattle.rpc_end.specs.declared.terms.Terms.{Terms}
+
+-- the value of an end: how it writes and reads, what it keeps of requests, its output, the bytes `rest` that were fed
+-- and aren't applied, and the place `at` of the first of them
+pub record RpcValue : Type 0 where
+  pub terms : Terms
+  pub table : TableValue
+  pub output : List ℕ
+  pub at : ℕ
+  pub rest : List ℕ
+  pub state : EndState
+
+abbrev pub state_by : Option Cause → EndState
+state_by None = state.Running
+state_by (Some cause) = state.Ended cause
+
+abbrev pub state_of : List RpcItem → EndState
+state_of items = state_by (ended items)
+
+-- the end is as the items leave it, with these bytes not applied, the first of them at this place
+pub record RpcStands (end : RpcValue) (items : List RpcItem) (at : ℕ) (rest : List ℕ) : Type 0 where
+  pub table : TableStands false end.table items
+  pub at_is : end.at ≡ at
+  pub rest_is : end.rest ≡ rest
+  pub state : end.state ≡ state_of items
+  pub allowed : AreAllowed (encoder end.terms.encoding) items
+  pub built : are_built items ≡ true

@@ -1,0 +1,3 @@
+//! What an end answers and says, as tables.
+
+mod calls;
