@@ -2,3 +2,4 @@ pub mod Readings
 pub mod Spellings
 pub mod Lengths
 pub mod Sizes
+pub mod Within
