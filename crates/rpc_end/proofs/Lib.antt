@@ -1,1 +1,5 @@
 pub mod Answering
+pub mod Named
+pub mod Plain
+pub mod Heeded
+pub mod Stepping

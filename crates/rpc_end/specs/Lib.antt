@@ -6,3 +6,4 @@ pub mod Replies
 pub mod Ends
 pub mod Reader
 pub mod Calls
+pub mod Heeding

@@ -1,15 +1,23 @@
 //! What arrives at an end.
 
-ghost use Rattle.rpc_end.specs.Arrivals.{arrival};
+ghost use Rattle.message_body.specs.Found.{body_in};
+ghost use Rattle.message_body.specs.Replies.{Reads};
+ghost use Rattle.message_framing.specs.Front.{front};
+ghost use Rattle.message_framing.specs.declared.front.Front.TheVariants.{Whole};
+ghost use Rattle.rpc_end.specs.Arrivals.{Refuses, arrival};
 ghost use Rattle.rpc_end.specs.Ends.{with_rest, with_stop};
+ghost use Rattle.rpc_end.specs.Heeding.{HasId, Steps, front_arrives, message_arrives};
 ghost use Rattle.rpc_end.specs.Replies.{FeedAnswers, StepAnswers, StepsStopped, is_spent, most_fed};
 ghost use Rattle.rpc_end.specs.Stands.{RpcStands};
 ghost use Rattle.rpc_items.specs.declared.calls.RpcEvent.{RpcEvent};
 ghost use Rattle.rpc_items.specs.Items.{RpcItem, ended};
-ghost use Rattle.std.specs.Prelude.{◌≡◌, ◌≤◌, ◌<◌, ◌+◌, ◌++◌, List, OnErr, OnOk, Ok, length, nat_lt, ℕ};
+ghost use Rattle.std.specs.Prelude.{◌≡◌, ◌≤◌, ◌<◌, ◌+◌, ◌++◌, List, OnErr, OnOk, Ok, drop, length, nat_lt, take, ℕ};
 
 use crate::end::RpcEnd;
 use crate::step::RpcStep;
+use message_body::{BodyFault, read};
+use message_framing::Front;
+use rpc_items::Message;
 use wire_base::{Cause, EndState, MAX_FED, OutOfMemory, Place, Reason};
 
 impl RpcEnd {
@@ -53,6 +61,7 @@ impl RpcEnd {
         self.reader.feed(piece)
     }
 
+    #[tactic(auto, using(crate::proofs::Stepping::step_answers, crate::proofs::Stepping::ended_answers, crate::proofs::Stepping::never_stopped))]
     /// Applies the next whole message, and answers what it was to this end. A refused one ends the end.
     pub fn step(&mut self) -> RpcStep
         ensures answers { (items : List RpcItem) (at : ℕ) (rest : List ℕ) → RpcStands self.old items at rest →
@@ -60,6 +69,97 @@ impl RpcEnd {
         ensures stopped { StepsStopped self.old self.new result }
         ensures shorter { (event : RpcEvent) → result ≡ RpcStep.Event event → length self.new.rest < length self.old.rest }
         ensures terms { self.new.terms ≡ self.old.terms }
+    {
+        match self.state {
+            EndState::Running => self.apply_front(),
+            EndState::Ended(cause) => RpcStep::Ended(cause),
+            EndState::Stopped => RpcStep::Stopped,
+        }
+    }
+
+    /// Applies the message at the front of the rest, if it is whole.
+    fn apply_front(&mut self) -> RpcStep
+        requires { self.old.state ≡ EndState.Running }
+        ensures steps { Steps self.old self.new (front_arrives self.old (front self.old.terms.framing self.old.rest)) result }
+        ensures terms { self.new.terms ≡ self.old.terms }
+    {
+        match self.reader.front() {
+            Front::Whole(start, size) => self.apply_body(start, size),
+            Front::Short => RpcStep::Short,
+            Front::Broken(offset, reason) => self.refuse(offset, reason),
+        }
+    }
+
+    #[tactic(auto, using(crate::proofs::Named::has_id, message_framing::proofs::FrontLemmas::whole_within))]
+    /// Applies the message with a body of so many bytes, the first of them at this offset.
+    fn apply_body(&mut self, start: usize, size: usize) -> RpcStep
+        requires running { self.old.state ≡ EndState.Running }
+        requires whole { front self.old.terms.framing self.old.rest ≡ Whole start size }
+        ensures steps { Steps self.old self.new (front_arrives self.old (Whole start size)) result }
+        ensures terms { self.new.terms ≡ self.old.terms }
+    {
+        match self.read_body(start, size) {
+            Ok(message) => self.apply(message, start, size),
+            Err(BodyFault::Refused(offset, reason)) => self.refuse(start + offset, reason),
+            Err(BodyFault::OutOfMemory) => self.starve(),
+        }
+    }
+
+    /// The message that a body of so many bytes says, the first of them at this offset.
+    fn read_body(&self, start: usize, size: usize) -> Result<Message, BodyFault>
+        requires { start + size ≤ length self.now.rest }
+        ensures reads { Reads (body_in self.now.terms.encoding (take size (drop start self.now.rest))) result }
+        ensures bound { length self.now.rest ≤ most_fed }
+    {
+        let body = &self.reader.unread()[start..start + size];
+        read(self.alloc, self.terms.encoding, body)
+    }
+
+    #[tactic(auto, using(message_framing::proofs::FrontLemmas::whole_within))]
+    /// Applies the message that a body of so many bytes says, the first of them at this offset.
+    fn apply(&mut self, message: Message, start: usize, size: usize) -> RpcStep
+        requires running { self.old.state ≡ EndState.Running }
+        requires whole { front self.old.terms.framing self.old.rest ≡ Whole start size }
+        requires named { HasId message }
+        ensures steps { Steps self.old self.new (message_arrives self.old (self.old.at + start) (start + size) message) result }
+        ensures terms { self.new.terms ≡ self.old.terms }
+    {
+        if let Some(reason) = self.broken_rule(&message) {
+            return self.refuse(start, reason);
+        }
+        match self.heed(message) {
+            Ok(event) => {
+                self.reader.skip(start, size);
+                RpcStep::Event(event)
+            }
+            Err(_) => self.starve(),
+        }
+    }
+
+    /// What the peer sent is refused at this offset of the rest.
+    fn refuse(&mut self, offset: usize, reason: Reason) -> RpcStep
+        requires running { self.old.state ≡ EndState.Running }
+        requires within { offset ≤ length self.old.rest }
+        ensures steps { Steps self.old self.new (Refuses (self.old.at + offset) reason) result }
+        ensures terms { self.new.terms ≡ self.old.terms }
+    {
+        let cause = Cause::Refused(self.place(offset), reason);
+        self.close(cause);
+        RpcStep::Ended(cause)
+    }
+
+    /// The place of a byte of the rest, by its offset.
+    fn place(&self, offset: usize) -> Place
+        requires { offset ≤ length self.now.rest }
+        ensures { result.0 ≡ self.now.at + offset }
+    {
+        Place(self.reader.place().0 + offset as u64)
+    }
+
+    /// Memory ran out in a step.
+    fn starve(&mut self) -> RpcStep
+        ensures answer { result ≡ RpcStep.OutOfMemory }
+        ensures stop { self.new ≡ with_stop self.old }
     {
         self.stop();
         RpcStep::OutOfMemory

@@ -5,6 +5,7 @@ mod arguments;
 mod arriving;
 mod calls;
 mod end;
+mod heeding;
 mod messages;
 mod preparing;
 mod saying;

@@ -1,0 +1,168 @@
+-- What a message is to an end by what it holds, and by its items.
+use Rattle.std.specs.Prelude.{ℕ, ℤ, pos, negsuc, ◌+◌, List, [], ◌∷◌, ◌++◌, Bool, true, false, not, ◌&&◌, codes, is_none, if◌then◌else◌, Option, Some, None}
+use Rattle.std.proofs.Common.{◌≡◌, refl, sym, ◌∙◌, ap, subst}
+use Rattle.std.proofs.lemmas.Bool.{and_parts}
+use Rattle.wire_base.specs.Tree.{Tree}
+use Rattle.wire_base.specs.declared.reason.Reason.{Reason}
+use Rattle.wire_base.specs.declared.reason.Reason.TheVariants.{DuplicateRequest}
+use Rattle.wire_base.specs.declared.text.Id.{Id}
+use Rattle.wire_base.specs.declared.text.Id.TheVariants.{Number, Name}
+use Rattle.rpc_items.specs.declared.calls.HandleKey.{HandleKey}
+use Rattle.rpc_items.specs.declared.calls.Outcome.TheVariants.{Replied, Failed}
+use Rattle.rpc_items.specs.declared.calls.RpcEvent.{RpcEvent}
+use Rattle.rpc_items.specs.declared.calls.RpcEvent.TheVariants as event
+use Rattle.rpc_items.specs.declared.calls.Target.TheVariants as target
+use Rattle.rpc_items.specs.declared.messages.Message.{Message}
+use Rattle.rpc_items.specs.declared.messages.Message.TheVariants.{Request, Notification}
+use Rattle.rpc_items.specs.declared.messages.Message.TheVariants as message
+use Rattle.rpc_items.specs.declared.messages.Params.{Params}
+use Rattle.rpc_items.specs.declared.methods.Meaning.{Meaning}
+use Rattle.rpc_items.specs.declared.methods.Meaning.TheVariants.{Serves, Cancels, Reports, Turns, Aborts, Releases, Calls, Mistakes, Unknown}
+use Rattle.rpc_items.specs.Automatic.{automatic, fault, nothing_there, turned}
+use Rattle.rpc_items.specs.Bodies.{body_refusal}
+use Rattle.rpc_items.specs.Drawn.{with_number}
+use Rattle.rpc_items.specs.Events.{answered_event, event_of, handled_event, notification_event, object_target, reported_event, request_event}
+use Rattle.rpc_items.specs.Fitting.{AreWritable, IsNamed}
+use Rattle.rpc_items.specs.Handles.{has_ended, is_live, is_made}
+use Rattle.rpc_items.specs.Items.{RpcItem, Got}
+use Rattle.rpc_items.specs.Made.{Made}
+use Rattle.rpc_items.specs.Meanings.{meaning}
+use Rattle.rpc_items.specs.OwnHandles.{own_live, own_made}
+use Rattle.rpc_items.specs.Outcomes.{request_named}
+use Rattle.rpc_items.specs.PeerHandles.{is_service}
+use Rattle.rpc_items.specs.Produced.{Produced, produced_at}
+use Rattle.rpc_items.specs.Producing.{is_aborted, is_open, is_producing, page_count, sequence_named}
+use Rattle.rpc_items.specs.Refusals.{message_refusal}
+use Rattle.rpc_items.specs.Reports.{has_progress}
+use Rattle.rpc_items.specs.Saying.{said}
+use Rattle.rpc_items.specs.Waiting.{asks, is_waiting}
+use Rattle.rpc_items.specs.Writing.{message_value}
+use Rattle.rpc_items.specs.Items.{is_running}
+use Rattle.rpc_items.proofs.Writing.{automatic_fits}
+use Rattle.message_body.proofs.Lengths.{fair}
+use Rattle.message_body.specs.declared.encoding.Encoding.{Encoding}
+use Rattle.message_body.specs.Written.{encoder}
+use Rattle.call_table.specs.declared.answers.Settled.{Settled}
+use Rattle.call_table.specs.declared.answers.Settled.TheVariants.{First, Stray}
+use Rattle.call_table.specs.declared.entry.Entry.{Entry}
+use Rattle.call_table.specs.Stands.{TableStands}
+use Rattle.call_table.specs.Table.{TableValue, entry_of, heard, named_in, settled, settled_by, settled_in, waits_for, waits_in}
+use Rattle.call_table.proofs.After.{heard_after, settled_after}
+use Rattle.call_table.proofs.Passing.{nameless_error_leaves, notification_leaves, unasked_leaves}
+use Rattle.call_table.proofs.Reading.{names}
+use Rattle.rpc_end.specs.Built.{are_built}
+use Rattle.rpc_end.specs.Heeding.{answers_by, broken_by, event_by, extension_event, heard_by, notification_event_by, request_event_by, said_by, settled_event, table_by}
+use Rattle.rpc_end.proofs.Plain.{no_progress, not_live, unmade, unproduced}
+
+-- answers
+
+unsequenced : (token : Id) (items : List RpcItem) → are_built items ≡ true → sequence_named token items ≡ None
+unsequenced (Number (pos n)) items h = rw (unproduced n items h) refl
+unsequenced (Number (negsuc n)) items h = refl
+unsequenced (Name s) items h = refl
+
+pub automatic_by : (id : Id) (m : Meaning) (items : List RpcItem) → are_built items ≡ true → automatic id m items ≡ answers_by id m
+automatic_by id Serves items h = refl
+automatic_by id (Cancels named) items h = refl
+automatic_by id (Reports token value) items h = refl
+automatic_by id (Turns token) items h = ap (λ (t : Option ℕ). turned id t items) (unsequenced token items h)
+automatic_by id (Aborts token) items h = refl
+automatic_by id (Releases key) items h = refl
+automatic_by id (Calls handle method) items h = ap (λ (b : Bool). if b then [] else fault id nothing_there (codes "no object") ∷ []) (not_live handle items h)
+automatic_by id Mistakes items h = refl
+automatic_by id Unknown items h = refl
+
+-- an answer that a request gets by itself can be written
+pub answer_fits : (e : Encoding) (id : Id) (m : Meaning) (answer : Message) → IsNamed id → answers_by id m ≡ answer ∷ [] → body_refusal (encoder e) (message_value answer) ≡ None
+answer_fits e id m answer named is =
+    let fits : AreWritable (encoder e) (automatic id m []) = automatic_fits (encoder e) id m [] (fair e) tt named in
+    (subst (λ (ms : List Message). AreWritable (encoder e) ms) (automatic_by id m [] refl ∙ is) fits).0
+
+pub said_is : (place : ℕ) (m : Message) (items : List RpcItem) → are_built items ≡ true → said (Got place m) items ≡ said_by m
+said_is place (Request id method params) items h = automatic_by id (meaning method params) items h
+said_is place (Notification method params) items h = refl
+said_is place (message.Result id value) items h = refl
+said_is place (message.Error id code text more) items h = refl
+
+-- events
+
+module _ (table : TableValue) (items : List RpcItem) (s : TableStands false table items) (h : are_built items ≡ true) where
+  unreported : (n : Option ℕ) (method : List ℕ) → reported_event n method items ≡ event.Handled method
+  unreported (Some n) method = ap (λ (b : Bool). if b then event.Reported n else event.Handled method) (no_progress n items h)
+  unreported None method = refl
+
+  unreleased : (number : ℕ) (own : Bool) (method : List ℕ) → handled_event (Releases (record { number = number; own = own })) method items ≡ event.Handled method
+  unreleased number true method = ap (λ (b : Bool). if b then event.Released (record { number = number; own = true }) else event.Handled method) (not_live number items h)
+  unreleased number false method = refl
+
+  extension_is : (m : Meaning) (method : List ℕ) → is_service m ≡ false → extension_event m method table ≡ handled_event m method items
+  extension_is (Cancels id) method other = ap (λ (b : Bool). if b then event.Cancelled id else event.Handled method) (s.waiting id)
+  extension_is (Reports token value) method other = sym (unreported (request_named token items) method)
+  extension_is (Releases key) method other = sym (unreleased key.number key.own method)
+  extension_is Serves method other = absurd (cc other)
+  extension_is m method other = refl
+
+  request_is : (id : Id) (m : Meaning) (method : List ℕ) (params : Params) → request_event_by id m method params table ≡ request_event id m method params items
+  request_is id Serves method params = refl
+  request_is id (Calls handle called) method params =
+      sym (ap (λ (b : Bool). if b then event.Asked id (object_target (own_made handle items) handle) called params else event.Handled method) (not_live handle items h))
+  request_is id (Cancels named) method params = extension_is (Cancels named) method refl
+  request_is id (Reports token value) method params = extension_is (Reports token value) method refl
+  request_is id (Releases key) method params = extension_is (Releases key) method refl
+  request_is id m method params = refl
+
+  notification_is : (m : Meaning) (method : List ℕ) (params : Params) → notification_event_by m method params table ≡ notification_event m method params items
+  notification_is Serves method params = refl
+  notification_is (Cancels named) method params = extension_is (Cancels named) method refl
+  notification_is (Reports token value) method params = extension_is (Reports token value) method refl
+  notification_is (Releases key) method params = extension_is (Releases key) method refl
+  notification_is m method params = refl
+
+  answers_one : (n : ℕ) (entry : Option Entry) → waits_for entry ≡ true → settled_event (settled_by (Some n) entry) ≡ event.Answered n
+  answers_one n (Some entry) waits = refl
+  answers_one n None waits = absurd (cc waits)
+
+  answers_named : (n : ℕ) (b : Bool) → (b ≡ true → waits_for (with_number n table.requests) ≡ true) → settled_event (settled_by (if b then Some n else None) (entry_of (if b then Some n else None) table)) ≡ answered_event (if b then Some n else None)
+  answers_named n true waits = answers_one n (with_number n table.requests) (waits refl)
+  answers_named n false waits = refl
+
+  settled_named : (id : Id) → settled_event (settled_in id table) ≡ answered_event (named_in id table)
+  settled_named (Number (pos n)) = answers_named n (is_none table.rest && waits_for (with_number n table.requests)) (λ b. (and_parts (is_none table.rest) (waits_for (with_number n table.requests)) b).1)
+  settled_named (Number (negsuc n)) = refl
+  settled_named (Name t) = refl
+
+  settled_is : (id : Id) → settled_event (settled_in id table) ≡ answered_event (request_named id items)
+  settled_is id = settled_named id ∙ ap answered_event (names table items id s)
+
+  pub event_is : (m : Message) → event_by m table ≡ event_of m items
+  event_is (Request id method params) = request_is id (meaning method params) method params
+  event_is (Notification method params) = notification_is (meaning method params) method params
+  event_is (message.Result id value) = settled_is id
+  event_is (message.Error (Some id) code text more) = settled_is id
+  event_is (message.Error None code text more) = refl
+
+  -- the table
+
+  asks_by : (m : Meaning) → asks m items ≡ is_service m
+  asks_by (Calls handle method) = not_live handle items h
+  asks_by m = refl
+
+  request_leaves : (place : ℕ) (id : Id) (m : Meaning) (method : List ℕ) (params : Params) → meaning method params ≡ m → is_waiting id items ≡ false
+      → TableStands false (heard_by id m table) (Got place (Request id method params) ∷ items)
+  request_leaves place id Serves method params is free = heard_after id table (heard id table) place method params items refl s (ap (λ (m : Meaning). asks m items) is ∙ asks_by Serves)
+  request_leaves place id m method params is free = unasked_leaves false table place id method params items (ap (λ (m : Meaning). asks m items) is ∙ asks_by m) free s
+
+  unduplicated : (b : Bool) → (if b then Some DuplicateRequest else None) ≡ None → b ≡ false
+  unduplicated true e = absurd (cc e)
+  unduplicated false e = refl
+
+  pub broken_is : (m : Message) → broken_by m table ≡ message_refusal m items
+  broken_is (Request id method params) = ap (λ (b : Bool). if b then Some DuplicateRequest else None) (s.waiting id)
+  broken_is m = refl
+
+  pub table_stands : (place : ℕ) (m : Message) → message_refusal m items ≡ None → TableStands false (table_by m table) (Got place m ∷ items)
+  table_stands place (Request id method params) ok = request_leaves place id (meaning method params) method params refl (unduplicated (is_waiting id items) ok)
+  table_stands place (Notification method params) ok = notification_leaves false table place method params items s
+  table_stands place (message.Result id value) ok = settled_after id (Replied value) table (settled (settled_in id table) (Replied value) table) place (message.Result id value) items refl s refl
+  table_stands place (message.Error (Some id) code text more) ok = settled_after id (Failed code text more) table (settled (settled_in id table) (Failed code text more) table) place (message.Error (Some id) code text more) items refl s refl
+  table_stands place (message.Error None code text more) ok = nameless_error_leaves false table place code text more items s

@@ -1,0 +1,188 @@
+//! What messages are to a running end.
+
+ghost use Rattle.call_table.specs.Table.{heard, settled, settled_in, waits_in};
+ghost use Rattle.message_body.specs.Written.{encoder};
+ghost use Rattle.rpc_end.specs.Ends.{with_said, with_table};
+ghost use Rattle.rpc_end.specs.Heeding.{HasId, answers_by, broken_by, event_by, extension_event, named_event, named_table, notification_event_by, settled_event, with_heeded};
+ghost use Rattle.rpc_items.specs.Automatic.{fault};
+ghost use Rattle.rpc_items.specs.Bodies.{body_refusal};
+ghost use Rattle.rpc_items.specs.Fitting.{IsNamed};
+ghost use Rattle.rpc_items.specs.Meanings.{meaning};
+ghost use Rattle.rpc_items.specs.PeerHandles.{is_service};
+ghost use Rattle.rpc_items.specs.Writing.{message_value};
+ghost use Rattle.rpc_items.specs.declared.calls.RpcEvent.TheVariants as events;
+ghost use Rattle.rpc_items.specs.declared.calls.Target.TheVariants as targets;
+ghost use Rattle.rpc_items.specs.declared.messages.Message.TheVariants as messages;
+ghost use Rattle.std.specs.Prelude.{◌≡◌, ◌∷◌, IfOk, None, OnErr, OnOk, [], false};
+
+use crate::end::RpcEnd;
+use call_table::{Heard, Outcome, Settled};
+use rpc_items::{Meaning, Message, Params, RpcEvent, Target};
+use rpc_methods::meaning_of;
+use std::alloc::Global;
+use wire_base::{CallFault, Datum, Id, Node, OutOfMemory, Reason, Text};
+
+/// The code of an answer that names no sequence or object.
+const NOTHING_THERE: i64 = -32_001;
+
+/// The code of an answer to an extension with other arguments.
+const BAD_ARGUMENTS: i64 = -32_602;
+
+/// The code of an answer to a reserved method that isn't known.
+const NO_METHOD: i64 = -32_601;
+
+/// An error that has no data.
+fn fault(alloc: Global, id: Id, code: i64, text: &str) -> Result<Message, OutOfMemory>
+    ensures { IfOk result (λ m. m ≡ fault id code text.now) }
+{
+    Ok(Message::Error(Some(id), code, Text::from_str(alloc, text)?, None))
+}
+
+/// The answer that a request gets by itself where it isn't for the service.
+fn answer_to(alloc: Global, id: Id, meaning: &Meaning) -> Result<Message, OutOfMemory>
+    requires { is_service meaning.now ≡ false }
+    ensures { IfOk result (λ answer. answers_by id meaning.now ≡ answer ∷ []) }
+{
+    match meaning {
+        Meaning::Turns(_) => fault(alloc, id, NOTHING_THERE, "no sequence"),
+        Meaning::Calls(_, _) => fault(alloc, id, NOTHING_THERE, "no object"),
+        Meaning::Mistakes => fault(alloc, id, BAD_ARGUMENTS, "bad arguments"),
+        Meaning::Unknown => fault(alloc, id, NO_METHOD, "no method"),
+        _ => Ok(Message::Result(id, Datum { node: Node::Nil })),
+    }
+}
+
+impl RpcEnd {
+    /// The rule that a message breaks: the id of a request isn't that of one that waits.
+    pub(crate) fn broken_rule(&self, message: &Message) -> Option<Reason>
+        ensures { result ≡ broken_by message.now self.now.table }
+    {
+        match message {
+            Message::Request(id, _, _) if self.table.waits(id) => Some(Reason::DuplicateRequest),
+            _ => None,
+        }
+    }
+
+    /// Does what a message asks for that breaks no rule, and answers what it was to this end.
+    pub(crate) fn heed(&mut self, message: Message) -> Result<RpcEvent, OutOfMemory>
+        requires new { broken_by message self.old.table ≡ None }
+        requires named { HasId message }
+        ensures ok { IfOk result (λ event. event ≡ event_by message self.old.table) }
+        ensures made { OnOk result (self.new ≡ with_heeded message self.old) }
+        ensures err { OnErr result (self.new ≡ self.old) }
+    {
+        match message {
+            Message::Request(id, method, params) => self.heed_request(id, method, params),
+            Message::Notification(method, params) => self.heed_notification(method, params),
+            Message::Result(id, value) => Ok(self.settle(&id, Outcome::Replied(value))),
+            Message::Error(id, code, text, more) => {
+                Ok(self.settle_named(id, Outcome::Failed(code, text, more)))
+            }
+        }
+    }
+
+    /// Keeps what an error tells, which may be without an id.
+    fn settle_named(&mut self, id: Option<Id>, outcome: Outcome) -> RpcEvent
+        ensures event { result ≡ named_event id self.old.table }
+        ensures made { self.new ≡ with_table (named_table id outcome self.old.table) self.old }
+    {
+        match id {
+            Some(id) => self.settle(&id, outcome),
+            None => RpcEvent::Stray,
+        }
+    }
+
+    /// Keeps what a response tells, where it is the first to its request.
+    fn settle(&mut self, id: &Id, outcome: Outcome) -> RpcEvent
+        ensures event { result ≡ settled_event (settled_in id.now self.old.table) }
+        ensures made { self.new ≡ with_table (settled (settled_in id.now self.old.table) outcome self.old.table) self.old }
+    {
+        match self.table.settle(id, outcome) {
+            Settled::First(n, _) => RpcEvent::Answered(n),
+            Settled::Stray => RpcEvent::Stray,
+        }
+    }
+
+    fn heed_notification(&self, method: Text, params: Params) -> Result<RpcEvent, OutOfMemory>
+        ensures { IfOk result (λ event. event ≡ notification_event_by (meaning method params) method params self.now.table) }
+    {
+        match meaning_of(self.alloc, &method, &params)? {
+            Meaning::Serves => Ok(RpcEvent::Told(method, params)),
+            meaning => Ok(self.event_of(meaning, method)),
+        }
+    }
+
+    /// What an extension is to this end: a request that waits may be given up, and nothing is told of the others.
+    fn event_of(&self, meaning: Meaning, method: Text) -> RpcEvent
+        ensures { result ≡ extension_event meaning method self.now.table }
+    {
+        match meaning {
+            Meaning::Cancels(id) => {
+                if self.table.waits(&id) {
+                    RpcEvent::Cancelled(id)
+                } else {
+                    RpcEvent::Handled(method)
+                }
+            }
+            _ => RpcEvent::Handled(method),
+        }
+    }
+
+    fn heed_request(
+        &mut self,
+        id: Id,
+        method: Text,
+        params: Params,
+    ) -> Result<RpcEvent, OutOfMemory>
+        requires new { waits_in id self.old.table ≡ false }
+        requires named { IsNamed id }
+        ensures ok { IfOk result (λ event. event ≡ event_by (messages.Request id method params) self.old.table) }
+        ensures made { OnOk result (self.new ≡ with_heeded (messages.Request id method params) self.old) }
+        ensures err { OnErr result (self.new ≡ self.old) }
+    {
+        match meaning_of(self.alloc, &method, &params)? {
+            Meaning::Serves => self.hear(id, method, params),
+            meaning => {
+                self.answer_at_once(id, &meaning)?;
+                Ok(self.event_of(meaning, method))
+            }
+        }
+    }
+
+    /// A request to the service waits from now on.
+    fn hear(&mut self, id: Id, method: Text, params: Params) -> Result<RpcEvent, OutOfMemory>
+        requires { waits_in id self.old.table ≡ false }
+        ensures ok { IfOk result (λ event. event ≡ events.Asked id targets.Root method params) }
+        ensures made { OnOk result (self.new ≡ with_table (heard id self.old.table) self.old) }
+        ensures err { OnErr result (self.new ≡ self.old) }
+    {
+        match self.table.hear(id.copy(self.alloc)?) {
+            Heard::New => Ok(RpcEvent::Asked(id, Target::Root, method, params)),
+            _ => Err(OutOfMemory),
+        }
+    }
+
+    /// A request gets the answer that it gets by itself.
+    fn answer_at_once(&mut self, id: Id, meaning: &Meaning) -> Result<(), OutOfMemory>
+        requires extension { is_service meaning.now ≡ false }
+        requires named { IsNamed id }
+        ensures made { OnOk result (self.new ≡ with_said (answers_by id meaning.now) self.old) }
+        ensures err { OnErr result (self.new ≡ self.old) }
+    {
+        let answer = answer_to(self.alloc, id, meaning)?;
+        self.say_message(&answer)
+    }
+
+    /// Says a message that no rule refuses.
+    fn say_message(&mut self, message: &Message) -> Result<(), OutOfMemory>
+        requires { body_refusal (encoder self.old.terms.encoding) (message_value message.now) ≡ None }
+        ensures made { OnOk result (self.new ≡ with_said (message.now ∷ []) self.old) }
+        ensures err { OnErr result (self.new ≡ self.old) }
+    {
+        match self.text_of(message) {
+            Ok(text) => self.say(text.as_slice()),
+            Err(CallFault::OutOfMemory) => Err(OutOfMemory),
+            Err(CallFault::Refused(_)) => unreachable!(),
+        }
+    }
+}
