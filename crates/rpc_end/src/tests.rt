@@ -1,7 +1,6 @@
-//! What an end answers and says, and what a message is to it, as tables.
+//! What happens at one end of a connection: rows of bodies with what each is to the end, and calls between two ends.
 
-mod calls;
 mod ending;
-mod heeding;
 mod rows;
 mod stepping;
+mod traffic;

@@ -1,20 +1,26 @@
 //! Rows of text, and the end that lives through them.
 
-use crate::{Encoding, Framing, Look, Outcome, Params, RpcEnd, RpcEvent, RpcStep};
-use call_table::Expect;
+use crate::{
+    Arguments, Encoding, Expect, Framing, Look, Outcome, Params, RpcEnd, RpcEvent, RpcStep,
+};
 use std::alloc::Global;
 use std::process::Abort;
 use std::test::Fail;
-use wire_base::{Cause, EndState, Id, Node};
+use wire_base::{Cause, EndState, Id, Node, Text};
 
 /// An end that writes and reads JSON behind four-byte lengths.
 pub fn start(alloc: Global) -> RpcEnd {
     RpcEnd::new(alloc, Framing::Length, Encoding::Json)
 }
 
-/// The end makes its next request, of which nothing is said here.
-pub fn asks(end: &mut RpcEnd) -> bool {
-    end.table.begin(Expect::Plain, false).is_ok()
+/// The end says its next request, which is sent.
+pub fn asks(alloc: Global, end: &mut RpcEnd) -> Result<bool, Fail> {
+    let method = Text::from_str(alloc, "work")?;
+    let asked = end
+        .request(&method, Arguments::Absent, Expect::Plain)
+        .is_ok();
+    sent(alloc, end)?;
+    Ok(asked)
 }
 
 /// A body behind its four-byte length.
