@@ -1,5 +1,6 @@
 -- What the bytes that aren't applied are to an end.
-use Rattle.std.specs.Prelude.{ℕ, ◌+◌, List, take, drop, Option, Some, None, Result, Ok, Err}
+use Rattle.std.specs.Prelude.{ℕ, ◌+◌, List, take, drop, Bool, true, false, Option, Some, None, Result, Ok, Err}
+use Rattle.message_body.specs.declared.encoding.Encoding.{Encoding}
 use Rattle.message_body.specs.Found.{body_in}
 use Rattle.message_framing.specs.declared.front.Front.{Front}
 use Rattle.message_framing.specs.declared.front.Front.TheVariants as fronts
@@ -33,3 +34,17 @@ front_arrival terms items at rest (fronts.Broken offset r) = Refuses (at + offse
 -- the next message of the rest, whose first byte stands at this place
 abbrev pub arrival : Terms → List RpcItem → (at : ℕ) → (rest : List ℕ) → Arrival
 arrival terms items at rest = front_arrival terms items at rest (front terms.framing rest)
+
+-- whether a body says a message
+abbrev pub is_message : Result Message (ℕ × Reason) → Bool
+is_message (Ok message) = true
+is_message (Err broken) = false
+
+-- whether what stands in front is a whole body that says a message
+abbrev pub is_whole_message : Encoding → (rest : List ℕ) → Front → Bool
+is_whole_message encoding rest (fronts.Whole start size) = is_message (body_in encoding (take size (drop start rest)))
+is_whole_message encoding rest front = false
+
+-- whether the rest begins with a whole message
+abbrev pub begins_message : Terms → (rest : List ℕ) → Bool
+begins_message terms rest = is_whole_message terms.encoding rest (front terms.framing rest)

@@ -4,14 +4,14 @@ ghost use Rattle.message_body.specs.Found.{body_in};
 ghost use Rattle.message_body.specs.Replies.{Reads};
 ghost use Rattle.message_framing.specs.Front.{front};
 ghost use Rattle.message_framing.specs.declared.front.Front.TheVariants.{Whole};
-ghost use Rattle.rpc_end.specs.Arrivals.{Refuses, arrival};
+ghost use Rattle.rpc_end.specs.Arrivals.{Refuses, arrival, begins_message, is_message};
 ghost use Rattle.rpc_end.specs.Ends.{with_rest, with_stop};
 ghost use Rattle.rpc_end.specs.Heeding.{HasId, Steps, front_arrives, message_arrives};
 ghost use Rattle.rpc_end.specs.Replies.{FeedAnswers, StepAnswers, StepsStopped, is_spent, most_fed};
 ghost use Rattle.rpc_end.specs.Stands.{RpcStands};
 ghost use Rattle.rpc_items.specs.declared.calls.RpcEvent.{RpcEvent};
-ghost use Rattle.rpc_items.specs.Items.{RpcItem, ended};
-ghost use Rattle.std.specs.Prelude.{◌≡◌, ◌≤◌, ◌<◌, ◌+◌, ◌++◌, List, OnErr, OnOk, Ok, drop, length, nat_lt, take, ℕ};
+ghost use Rattle.rpc_items.specs.Items.{RpcItem, ended, is_running};
+ghost use Rattle.std.specs.Prelude.{◌≡◌, ◌≤◌, ◌<◌, ◌+◌, ◌++◌, ◌&&◌, IfOk, List, OnErr, OnOk, Ok, drop, false, length, nat_lt, take, ℕ};
 
 use crate::end::RpcEnd;
 use crate::step::RpcStep;
@@ -74,6 +74,30 @@ impl RpcEnd {
             EndState::Running => self.apply_front(),
             EndState::Ended(cause) => RpcStep::Ended(cause),
             EndState::Stopped => RpcStep::Stopped,
+        }
+    }
+
+    /// Whether a running end has a whole message at the front of the rest. It changes nothing.
+    pub fn has_message(&self) -> Result<bool, OutOfMemory>
+        ensures answers { (items : List RpcItem) (at : ℕ) (rest : List ℕ) → RpcStands self.now items at rest →
+            IfOk result (λ has. has ≡ (is_running items && begins_message self.now.terms rest)) }
+        ensures stopped { self.now.state ≡ EndState.Stopped → result ≡ Ok false }
+    {
+        match (self.state, self.reader.front()) {
+            (EndState::Running, Front::Whole(start, size)) => self.is_message(start, size),
+            _ => Ok(false),
+        }
+    }
+
+    /// Whether a body of so many bytes says a message, the first of them at this offset.
+    fn is_message(&self, start: usize, size: usize) -> Result<bool, OutOfMemory>
+        requires { start + size ≤ length self.now.rest }
+        ensures { IfOk result (λ is. is ≡ is_message (body_in self.now.terms.encoding (take size (drop start self.now.rest)))) }
+    {
+        match self.read_body(start, size) {
+            Ok(_) => Ok(true),
+            Err(BodyFault::Refused(_, _)) => Ok(false),
+            Err(BodyFault::OutOfMemory) => Err(OutOfMemory),
         }
     }
 
