@@ -1,0 +1,4 @@
+pub mod Growing
+mod Worked
+mod WorkedRefusals
+mod WorkedMessages

@@ -1,0 +1,11 @@
+pub mod Items
+pub mod Connections
+pub mod Following
+pub mod Layers
+pub mod Bytes
+pub mod Calls
+pub mod Arriving
+pub mod Allowed
+pub mod Outcomes
+pub mod Open
+pub mod Rows

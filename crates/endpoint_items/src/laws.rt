@@ -1,0 +1,22 @@
+//! Laws of one end's items.
+
+ghost use Rattle.std.specs.Prelude.{◌++◌, ◌∷◌, List, Bool, ℕ, false};
+ghost use Rattle.wire_base.specs.declared.frame.Version.{Version};
+ghost use Rattle.mux_items.specs.declared.channel.ChannelKey.{ChannelKey};
+ghost use Rattle.rpc_items.specs.Stable.{IsStable, IsReal};
+ghost use Rattle.endpoint_items.specs.Items.{EndItem};
+ghost use Rattle.endpoint_items.specs.Connections.{items_of};
+ghost use Rattle.endpoint_items.specs.Layers.{rpc_of};
+ghost use Rattle.endpoint_items.specs.Outcomes.{HasGrown, outcome_on};
+
+/// A connection that was attached stays, and its items only grow.
+pub fn connections_grow()
+    ensures { (v : Version) (c : ChannelKey) (newer items : List EndItem) → HasGrown (rpc_of v c items) (rpc_of v c (newer ++ items)) }
+{}
+
+/// An outcome that is known stays until the request is forgotten. It is the content of the first response, or the end
+/// or the stop with no response before it.
+pub fn outcomes_are_kept()
+    ensures stays { (v : Version) (c : ChannelKey) (n : ℕ) (newer items : List EndItem) → IsStable n (items_of (rpc_of v c (newer ++ items))) (outcome_on false v c n items) }
+    ensures real { (stopped : Bool) (v : Version) (c : ChannelKey) (n : ℕ) (items : List EndItem) → IsReal stopped n (items_of (rpc_of v c items)) (outcome_on stopped v c n items) }
+{}
