@@ -1,12 +1,14 @@
 //! Laws of one end's items.
 
-ghost use Rattle.std.specs.Prelude.{◌++◌, ◌∷◌, List, Bool, ℕ, false};
+ghost use Rattle.std.specs.Prelude.{◌≡◌, ◌++◌, List, Bool, ℕ, true, false};
 ghost use Rattle.wire_base.specs.declared.frame.Version.{Version};
 ghost use Rattle.mux_items.specs.declared.channel.ChannelKey.{ChannelKey};
 ghost use Rattle.rpc_items.specs.Stable.{IsStable, IsReal};
 ghost use Rattle.endpoint_items.specs.Items.{EndItem};
-ghost use Rattle.endpoint_items.specs.Connections.{items_of};
-ghost use Rattle.endpoint_items.specs.Layers.{rpc_of};
+ghost use Rattle.endpoint_items.specs.Connections.{is_attached, items_of};
+ghost use Rattle.endpoint_items.specs.Layers.{mux_of, rpc_of};
+ghost use Rattle.endpoint_items.specs.Allowed.{AreAllowed};
+ghost use Rattle.endpoint_items.specs.Open.{IsOpen};
 ghost use Rattle.endpoint_items.specs.Outcomes.{HasGrown, outcome_on};
 
 /// A connection that was attached stays, and its items only grow.
@@ -19,4 +21,9 @@ pub fn connections_grow()
 pub fn outcomes_are_kept()
     ensures stays { (v : Version) (c : ChannelKey) (n : ℕ) (newer items : List EndItem) → IsStable n (items_of (rpc_of v c (newer ++ items))) (outcome_on false v c n items) }
     ensures real { (stopped : Bool) (v : Version) (c : ChannelKey) (n : ℕ) (items : List EndItem) → IsReal stopped n (items_of (rpc_of v c items)) (outcome_on stopped v c n items) }
+{}
+
+/// The channel of a connection that hasn't ended is open.
+pub fn attached_channels_are_open()
+    ensures { (v : Version) (c : ChannelKey) (items : List EndItem) → AreAllowed v items → is_attached (rpc_of v c items) ≡ true → IsOpen v c (mux_of v items) }
 {}

@@ -1,6 +1,6 @@
-//! What an end with connections for remote calls is told and does, as a list of items.
+//! What an end with connections for remote calls is told and does, as a list of items, and what follows from such a list.
 #![tactic(auto)]
 
 mod laws;
 
-pub use laws::{connections_grow, outcomes_are_kept};
+pub use laws::{attached_channels_are_open, connections_grow, outcomes_are_kept};
