@@ -3,6 +3,7 @@
 ghost use Rattle.std.specs.Prelude.{◌≡◌, ◌++◌, List, Bool, ℕ, true, false};
 ghost use Rattle.wire_base.specs.declared.frame.Version.{Version};
 ghost use Rattle.mux_items.specs.declared.channel.ChannelKey.{ChannelKey};
+ghost use Rattle.rpc_items.specs.Answered.{AnswersOnce};
 ghost use Rattle.rpc_items.specs.Stable.{IsStable, IsReal};
 ghost use Rattle.endpoint_items.specs.Items.{EndItem};
 ghost use Rattle.endpoint_items.specs.Connections.{is_attached, items_of};
@@ -26,4 +27,9 @@ pub fn outcomes_are_kept()
 /// The channel of a connection that hasn't ended is open.
 pub fn attached_channels_are_open()
     ensures { (v : Version) (c : ChannelKey) (items : List EndItem) → AreAllowed v items → is_attached (rpc_of v c items) ≡ true → IsOpen v c (mux_of v items) }
+{}
+
+/// Each request that came on a connection is answered once at most.
+pub fn requests_are_answered_once()
+    ensures { (v : Version) (c : ChannelKey) (items : List EndItem) → AreAllowed v items → AnswersOnce (items_of (rpc_of v c items)) }
 {}

@@ -3,4 +3,6 @@
 
 mod laws;
 
-pub use laws::{attached_channels_are_open, connections_grow, outcomes_are_kept};
+pub use laws::{
+    attached_channels_are_open, connections_grow, outcomes_are_kept, requests_are_answered_once,
+};
