@@ -6,6 +6,10 @@ pub mod Attaching
 pub mod Attached
 pub mod Arriving
 pub mod Sound
+pub mod Texts
+pub mod Short
+pub mod Room
+pub mod Rows
 mod Worked
 mod WorkedEnds
 mod WorkedRefusals

@@ -1,6 +1,6 @@
 //! Laws of one end's items.
 
-ghost use Rattle.std.specs.Prelude.{◌≡◌, ◌++◌, List, Bool, ℕ, true, false};
+ghost use Rattle.std.specs.Prelude.{◌≡◌, ◌++◌, ◌∷◌, List, Bool, ℕ, true, false};
 ghost use Rattle.wire_base.specs.declared.frame.Version.{Version};
 ghost use Rattle.mux_items.specs.declared.channel.ChannelKey.{ChannelKey};
 ghost use Rattle.rpc_items.specs.Answered.{AnswersOnce};
@@ -11,6 +11,7 @@ ghost use Rattle.endpoint_items.specs.Layers.{mux_of, rpc_of};
 ghost use Rattle.endpoint_items.specs.Allowed.{AreAllowed};
 ghost use Rattle.endpoint_items.specs.Open.{IsOpen};
 ghost use Rattle.endpoint_items.specs.Outcomes.{HasGrown, outcome_on};
+ghost use Rattle.endpoint_items.specs.Rows.{Follows};
 
 /// A connection that was attached stays, and its items only grow.
 pub fn connections_grow()
@@ -32,4 +33,9 @@ pub fn attached_channels_are_open()
 /// Each request that came on a connection is answered once at most.
 pub fn requests_are_answered_once()
     ensures { (v : Version) (c : ChannelKey) (items : List EndItem) → AreAllowed v items → AnswersOnce (items_of (rpc_of v c items)) }
+{}
+
+/// Nothing that an item makes the multiplexing end do is refused.
+pub fn nothing_that_follows_is_refused()
+    ensures { (v : Version) (item : EndItem) (items : List EndItem) → AreAllowed v (item ∷ items) → Follows v item items }
 {}

@@ -4,5 +4,6 @@
 mod laws;
 
 pub use laws::{
-    attached_channels_are_open, connections_grow, outcomes_are_kept, requests_are_answered_once,
+    attached_channels_are_open, connections_grow, nothing_that_follows_is_refused,
+    outcomes_are_kept, requests_are_answered_once,
 };
