@@ -10,6 +10,7 @@ pub mod Texts
 pub mod Short
 pub mod Room
 pub mod Rows
+pub mod Rules
 mod Worked
 mod WorkedEnds
 mod WorkedRefusals

@@ -1,6 +1,6 @@
 //! Laws of one end's items.
 
-ghost use Rattle.std.specs.Prelude.{◌≡◌, ◌++◌, ◌∷◌, List, Bool, ℕ, true, false};
+ghost use Rattle.std.specs.Prelude.{◌≡◌, ◌++◌, ◌∷◌, List, Bool, ℕ, true, false, Some};
 ghost use Rattle.wire_base.specs.declared.frame.Version.{Version};
 ghost use Rattle.mux_items.specs.declared.channel.ChannelKey.{ChannelKey};
 ghost use Rattle.rpc_items.specs.Answered.{AnswersOnce};
@@ -8,6 +8,8 @@ ghost use Rattle.rpc_items.specs.Stable.{IsStable, IsReal};
 ghost use Rattle.endpoint_items.specs.Items.{EndItem};
 ghost use Rattle.endpoint_items.specs.Connections.{is_attached, items_of};
 ghost use Rattle.endpoint_items.specs.Layers.{mux_of, rpc_of};
+ghost use Rattle.endpoint_items.specs.Calls.{EndCall, called};
+ghost use Rattle.endpoint_items.specs.Arriving.{next_message};
 ghost use Rattle.endpoint_items.specs.Allowed.{AreAllowed};
 ghost use Rattle.endpoint_items.specs.Open.{IsOpen};
 ghost use Rattle.endpoint_items.specs.Outcomes.{HasGrown, outcome_on};
@@ -38,4 +40,10 @@ pub fn requests_are_answered_once()
 /// Nothing that an item makes the multiplexing end do is refused.
 pub fn nothing_that_follows_is_refused()
     ensures { (v : Version) (item : EndItem) (items : List EndItem) → AreAllowed v (item ∷ items) → Follows v item items }
+{}
+
+/// A call keeps the rules, and so does the next message.
+pub fn calls_and_messages_keep_the_rules()
+    ensures call { (v : Version) (c : EndCall) (items : List EndItem) → AreAllowed v items → AreAllowed v (called v c items) }
+    ensures message { (v : Version) (item : EndItem) (items : List EndItem) → AreAllowed v items → next_message v items ≡ Some item → AreAllowed v (item ∷ items) }
 {}
