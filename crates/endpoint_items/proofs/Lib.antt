@@ -15,3 +15,4 @@ mod Worked
 mod WorkedEnds
 mod WorkedRefusals
 mod WorkedMessages
+mod WorkedRules
