@@ -1,10 +1,12 @@
 -- There is room on a channel for what its connection says.
-use Rattle.std.specs.Prelude.{◌&&◌, is_none, Bool, true, false}
+use Rattle.std.specs.Prelude.{◌+◌, ◌&&◌, is_none, is_ok, take, drop, Bool, true, false, Result, Ok, Err}
 use Rattle.std.proofs.Common.{◌≡◌, ◌≢◌, ℕ, ◌-◌, ◌≤◌, List, [], length, refl, arith, Option, Some, None}
 use Rattle.std.proofs.lemmas.Bool.{ltb-false}
 use Rattle.wire_base.specs.declared.frame.Version.{Version}
 use Rattle.wire_base.specs.declared.refusal.Refusal.{Refusal}
 use Rattle.wire_base.specs.declared.state.Cause.{Cause}
+use Rattle.wire_base.specs.declared.reason.Reason.{Reason}
+use Rattle.message_body.specs.Found.{body_in}
 use Rattle.message_body.specs.Written.{encoder}
 use Rattle.message_body.proofs.Lengths.{fair}
 use Rattle.message_framing.specs.declared.front.Front.{Front}
@@ -29,7 +31,7 @@ use Rattle.rpc_items.specs.Saying.{said, emits}
 use Rattle.rpc_items.proofs.Drawing.{says_one}
 use Rattle.rpc_items.proofs.Writing.{automatic_fits}
 use Rattle.rpc_end.specs.Heeding.{HasId}
-use Rattle.rpc_end.specs.Arrivals.{Applies, front_arrival}
+use Rattle.rpc_end.specs.Arrivals.{Applies, front_arrival, body_arrival, is_whole_message}
 use Rattle.rpc_end.specs.declared.terms.Terms.{Terms}
 use Rattle.rpc_end.specs.Texts.{message_texts}
 use Rattle.endpoint_items.specs.Items.{EndItem, terms_of}
@@ -37,7 +39,6 @@ use Rattle.endpoint_items.specs.Connections.{Connection, is_attached, was_attach
 use Rattle.endpoint_items.specs.Layers.{mux_of, rpc_of}
 use Rattle.endpoint_items.specs.Bytes.{consumed, rest_of}
 use Rattle.endpoint_items.specs.Calls.{is_spent_on, most_text}
-use Rattle.endpoint_items.specs.Arriving.{is_whole}
 use Rattle.endpoint_items.specs.Allowed.{Arrives, AreAllowed}
 use Rattle.endpoint_items.proofs.Usable.{IsUsable, write_none}
 use Rattle.endpoint_items.proofs.Opens.{going_usable}
@@ -96,8 +97,12 @@ call_room v c call items a is some = by (emits call) refl
 
 -- a message that is applied stands whole
 
-whole : (terms : Terms) (items : List rpc.RpcItem) (at : ℕ) (rest : List ℕ) (f : Front) (place size : ℕ) (message : Message) → front_arrival terms items at rest f ≡ Applies place message size → is_whole f ≡ true
-whole terms items at rest (fronts.Whole start size) place n message e = refl
+says : (items : List rpc.RpcItem) (at taken : ℕ) (body : Result Message (ℕ × Reason)) (place size : ℕ) (message : Message) → body_arrival items at taken body ≡ Applies place message size → is_ok body ≡ true
+says items at taken (Ok m) place size message e = refl
+says items at taken (Err broken) place size message e = absurd (cc e)
+
+whole : (terms : Terms) (items : List rpc.RpcItem) (at : ℕ) (rest : List ℕ) (f : Front) (place size : ℕ) (message : Message) → front_arrival terms items at rest f ≡ Applies place message size → is_whole_message terms.encoding rest f ≡ true
+whole terms items at rest (fronts.Whole start size) place n message e = says items (at + start) (start + size) (body_in terms.encoding (take size (drop start rest))) place n message e
 whole terms items at rest fronts.Short place n message e = absurd (cc e)
 whole terms items at rest (fronts.Broken offset r) place n message e = absurd (cc e)
 

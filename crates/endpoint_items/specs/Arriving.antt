@@ -2,27 +2,19 @@
 use Rattle.std.specs.Prelude.{List, [], ◌∷◌, Bool, true, false, not, ◌&&◌, if◌then◌else◌, Option, Some, None}
 use Rattle.wire_base.specs.declared.frame.Version.{Version}
 use Rattle.wire_base.specs.declared.state.Cause.TheVariants as cause
-use Rattle.message_framing.specs.declared.front.Front.{Front}
-use Rattle.message_framing.specs.declared.front.Front.TheVariants.{Whole}
-use Rattle.message_framing.specs.Front.{front}
 use Rattle.mux_items.specs.declared.channel.ChannelKey.{ChannelKey}
 use Rattle.mux_items.specs.Items as mux
 use Rattle.mux_items.specs.Views.{in_order}
-use Rattle.rpc_end.specs.Arrivals.{Arrival, Applies, Waits, Refuses, arrival}
+use Rattle.rpc_end.specs.Arrivals.{Arrival, Applies, Waits, Refuses, arrival, begins_message}
 use Rattle.endpoint_items.specs.Items.{EndItem, Mux, GotMessage, RefusedMessage, terms_of, attached_keys}
 use Rattle.endpoint_items.specs.Connections.{is_attached, items_of}
 use Rattle.endpoint_items.specs.Layers.{mux_of, rpc_of}
 use Rattle.endpoint_items.specs.Bytes.{consumed, rest_of}
 use Rattle.endpoint_items.specs.Calls.{is_spent_on}
 
--- whether a message stands whole at the front
-abbrev pub is_whole : Front → Bool
-is_whole (Whole start size) = true
-is_whole front = false
-
 -- whether a message stands whole in the bytes of c that weren't applied
 abbrev pub has_message : Version → ChannelKey → List EndItem → Bool
-has_message v c items = is_whole (front (terms_of c items).framing (rest_of v c items))
+has_message v c items = begins_message (terms_of c items) (rest_of v c items)
 
 -- whether one does, with no room for an answer
 abbrev pub lacks_room : Version → ChannelKey → List EndItem → Bool

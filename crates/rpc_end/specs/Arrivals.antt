@@ -1,5 +1,5 @@
 -- What the bytes that aren't applied are to an end.
-use Rattle.std.specs.Prelude.{ℕ, ◌+◌, List, take, drop, Bool, true, false, Option, Some, None, Result, Ok, Err}
+use Rattle.std.specs.Prelude.{ℕ, ◌+◌, List, take, drop, Bool, false, is_ok, Option, Some, None, Result, Ok, Err}
 use Rattle.message_body.specs.declared.encoding.Encoding.{Encoding}
 use Rattle.message_body.specs.Found.{body_in}
 use Rattle.message_framing.specs.declared.front.Front.{Front}
@@ -35,14 +35,9 @@ front_arrival terms items at rest (fronts.Broken offset r) = Refuses (at + offse
 abbrev pub arrival : Terms → List RpcItem → (at : ℕ) → (rest : List ℕ) → Arrival
 arrival terms items at rest = front_arrival terms items at rest (front terms.framing rest)
 
--- whether a body says a message
-abbrev pub is_message : Result Message (ℕ × Reason) → Bool
-is_message (Ok message) = true
-is_message (Err broken) = false
-
 -- whether what stands in front is a whole body that says a message
 abbrev pub is_whole_message : Encoding → (rest : List ℕ) → Front → Bool
-is_whole_message encoding rest (fronts.Whole start size) = is_message (body_in encoding (take size (drop start rest)))
+is_whole_message encoding rest (fronts.Whole start size) = is_ok (body_in encoding (take size (drop start rest)))
 is_whole_message encoding rest front = false
 
 -- whether the rest begins with a whole message

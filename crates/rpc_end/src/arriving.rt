@@ -4,14 +4,14 @@ ghost use Rattle.message_body.specs.Found.{body_in};
 ghost use Rattle.message_body.specs.Replies.{Reads};
 ghost use Rattle.message_framing.specs.Front.{front};
 ghost use Rattle.message_framing.specs.declared.front.Front.TheVariants.{Whole};
-ghost use Rattle.rpc_end.specs.Arrivals.{Refuses, arrival, begins_message, is_message};
+ghost use Rattle.rpc_end.specs.Arrivals.{Refuses, arrival, begins_message};
 ghost use Rattle.rpc_end.specs.Ends.{with_rest, with_stop};
 ghost use Rattle.rpc_end.specs.Heeding.{HasId, Steps, front_arrives, message_arrives};
 ghost use Rattle.rpc_end.specs.Replies.{FeedAnswers, StepAnswers, StepsStopped, is_spent, most_fed};
 ghost use Rattle.rpc_end.specs.Stands.{RpcStands};
 ghost use Rattle.rpc_items.specs.declared.calls.RpcEvent.{RpcEvent};
 ghost use Rattle.rpc_items.specs.Items.{RpcItem, ended, is_running};
-ghost use Rattle.std.specs.Prelude.{◌≡◌, ◌≤◌, ◌<◌, ◌+◌, ◌++◌, ◌&&◌, IfOk, List, OnErr, OnOk, Ok, drop, false, length, nat_lt, take, ℕ};
+ghost use Rattle.std.specs.Prelude.{◌≡◌, ◌≤◌, ◌<◌, ◌+◌, ◌++◌, ◌&&◌, IfOk, List, OnErr, OnOk, Ok, drop, false, is_ok, length, nat_lt, take, ℕ};
 
 use crate::end::RpcEnd;
 use crate::step::RpcStep;
@@ -92,7 +92,7 @@ impl RpcEnd {
     /// Whether a body of so many bytes says a message, the first of them at this offset.
     fn is_message(&self, start: usize, size: usize) -> Result<bool, OutOfMemory>
         requires { start + size ≤ length self.now.rest }
-        ensures { IfOk result (λ is. is ≡ is_message (body_in self.now.terms.encoding (take size (drop start self.now.rest)))) }
+        ensures { IfOk result (λ is. is ≡ is_ok (body_in self.now.terms.encoding (take size (drop start self.now.rest)))) }
     {
         match self.read_body(start, size) {
             Ok(_) => Ok(true),
