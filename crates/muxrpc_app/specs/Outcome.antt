@@ -1,7 +1,9 @@
--- What a replay has read and written when it answers a status.
-use Rattle.std.specs.Prelude.{◌≡◌, ◌≤◌, ◌↔◌, ◌⊎◌, ℕ, List, true, false, length}
+-- What a command has read and written when it answers a status.
+use Rattle.std.specs.Prelude.{◌≡◌, ◌≤◌, ◌↔◌, ◌⊎◌, ℕ, List, true, false, length, Option, Some, None}
 use Rattle.std.specs.Io.KnownBytes.{append_known}
 use Rattle.wire_base.specs.Causes.{Rose}
+use Rattle.wire_base.specs.declared.frame.Version.{Version}
+use Rattle.wire_base.specs.declared.reason.Reason.{Reason}
 use Rattle.mux_run.specs.declared.steps.Step.{Step}
 use Rattle.mux_run.specs.Run.{Terms}
 use Rattle.mux_run.specs.Safe.{IsSafeRun}
@@ -10,9 +12,12 @@ use Rattle.script.specs.Found.{script_in, reads, breaks}
 use Rattle.script.specs.Numbers.{script_reason_number}
 use Rattle.script.specs.declared.reason.ScriptReason.{ScriptReason}
 use Rattle.transcript.specs.Report.{report_text}
+use Rattle.stream_view.specs.View.{view_text, view_refusal}
 use Rattle.muxrpc_app.specs.Streams.{SourceState, SinkState, WasRead, HoldsNothing, ReadWithin, ReadPast, WroteFront, most_input}
 use Rattle.muxrpc_app.specs.StatusText.{status_code, status_text}
-use Rattle.muxrpc_app.specs.Words.{is_replay}
+use Rattle.muxrpc_app.specs.Words.{command_in}
+use Rattle.muxrpc_app.specs.declared.words.Command.{Command}
+use Rattle.muxrpc_app.specs.declared.words.Command.TheVariants.{Replay, View}
 use Rattle.muxrpc_app.specs.declared.input.InputFault.{InputFault}
 use Rattle.muxrpc_app.specs.declared.input.InputFault.TheVariants as fault
 use Rattle.muxrpc_app.specs.declared.status.Status.{Status}
@@ -72,6 +77,50 @@ Replayed old new before after status.OutOfMemory = after.given ≡ before.given
 Replayed old new before after status.TooLong = ReadPast old.held new.held × (after.given ≡ before.given)
 Replayed old new before after status.LinkEnded = ⊥
 
+-- the input was read to its end, within the limit, and is a capture
+pub record ReadCapture (old new : SourceState) : Type 0 where
+  pub bytes : List ℕ
+  pub was_read : WasRead old.held new.held bytes
+  pub within : length bytes ≤ most_input
+  pub ended : new.ended ≡ true
+  pub at_end : HoldsNothing new.held
+
+-- the output has grown by exactly the view of the capture that was read, which is refused there, or nowhere
+pub record ViewDone (v : Version) (old new : SourceState) (before after : SinkState) (refused : Option (ℕ × Reason)) : Type 0 where
+  pub capture : ReadCapture old new
+  pub written : after.given ≡ append_known before.given (view_text v capture.bytes)
+  pub flushed : after.flushed ≡ true
+  pub refusal : view_refusal v capture.bytes ≡ refused
+
+-- writing failed: a front of the view is written
+pub record ViewFailed (v : Version) (old new : SourceState) (before after : SinkState) : Type 0 where
+  pub capture : ReadCapture old new
+  pub cause : Rose before.faults after.faults
+  pub front : WroteFront before.given after.given (view_text v capture.bytes)
+
+-- what a view of a version has done, by the status that it answers
+abbrev pub Viewed : Version → SourceState → SourceState → SinkState → SinkState → Status → Type 0
+Viewed v old new before after status.Done = ViewDone v old new before after None
+Viewed v old new before after status.Usage = ⊥
+Viewed v old new before after (status.ScriptRefused line number) = ⊥
+Viewed v old new before after (status.StreamRefused place reason) = ViewDone v old new before after (Some (place.0, reason))
+Viewed v old new before after status.ReadFault = Rose old.faults new.faults × ReadWithin old.held new.held × (new.ended ≡ false) × (after.given ≡ before.given)
+Viewed v old new before after status.WriteFault = ViewFailed v old new before after
+Viewed v old new before after status.LinkFault = ⊥
+Viewed v old new before after status.OutOfMemory = after.given ≡ before.given
+Viewed v old new before after status.TooLong = ReadPast old.held new.held × (after.given ≡ before.given)
+Viewed v old new before after status.LinkEnded = ⊥
+
+-- the status of a view of a capture that is refused there, or nowhere
+abbrev pub view_status : Option (ℕ × Reason) → Status
+view_status None = status.Done
+view_status (Some x) = status.StreamRefused (record { 0 = x.0 }) x.1
+
+-- what a command has done
+abbrev pub Does : Command → SourceState → SourceState → SinkState → SinkState → Status → Type 0
+Does Replay old new before after s = Replayed old new before after s
+Does (View v) old new before after s = Viewed v old new before after s
+
 -- the status of an input that wasn't read to its end
 abbrev pub input_status : InputFault → Status
 input_status fault.Failed = status.ReadFault
@@ -80,9 +129,9 @@ input_status fault.OutOfMemory = status.OutOfMemory
 
 -- what the words made of the input and the output, where the run ended with this status
 pub record Ran (words : List (List ℕ)) (old new : SourceState) (before after : SinkState) (s : Status) : Type 0 where
-  pub usage : (s ≡ status.Usage) ↔ (is_replay words ≡ false)
+  pub usage : (s ≡ status.Usage) ↔ (command_in words ≡ None)
   pub untouched : s ≡ status.Usage → (new ≡ old) × (after ≡ before)
-  pub outcome : is_replay words ≡ true → Replayed old new before after s
+  pub outcome : (c : Command) → command_in words ≡ Some c → Does c old new before after s
 
 -- the line of a status was written; or a write failed, and then a front of it was
 abbrev pub Tells : (before after : SinkState) → Status → Type 0

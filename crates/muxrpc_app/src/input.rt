@@ -2,7 +2,9 @@
 
 ghost use Rattle.std.specs.Prelude.{◌≡◌, ◌≤◌, length, IfOk, IfErr, OnOk, true};
 ghost use Rattle.muxrpc_app.specs.Streams.{WasRead, HoldsNothing, InputFails, most_input};
+ghost use Rattle.muxrpc_app.specs.Outcome.{input_status};
 
+use crate::status::Status;
 use std::alloc::Global;
 use wire_base::{Failed, Source};
 
@@ -46,5 +48,16 @@ pub(crate) fn read_input<S: Source>(alloc: Global, source: &mut S) -> Result<Vec
         if bytes.len() > MOST_INPUT {
             return Err(InputFault::TooLong);
         }
+    }
+}
+
+/// The status of an input that wasn't read to its end.
+pub(crate) fn input_status(fault: InputFault) -> Status
+    ensures { result ≡ input_status fault }
+{
+    match fault {
+        InputFault::Failed => Status::ReadFault,
+        InputFault::TooLong => Status::TooLong,
+        InputFault::OutOfMemory => Status::OutOfMemory,
     }
 }

@@ -7,13 +7,17 @@ mod output;
 mod replay;
 #[cfg(test)]
 mod rows;
+mod run;
 mod standard_error;
 mod status;
 #[cfg(test)]
 mod tests;
+mod view;
+mod words;
 
 pub use command::run_command;
 pub use input::InputFault;
-pub use replay::run_plain;
+pub use run::run_plain;
 pub use standard_error::{status_line, tell};
 pub use status::Status;
+pub use words::Command;
