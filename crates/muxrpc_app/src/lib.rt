@@ -13,6 +13,8 @@ mod status;
 #[cfg(test)]
 mod tests;
 mod view;
+#[cfg(test)]
+mod view_rows;
 mod words;
 
 pub use command::run_command;

@@ -48,7 +48,7 @@ pub(crate) fn sink(alloc: Global, failing: &[u64]) -> Result<MemSink, Fail> {
     Ok(MemSink::new(alloc, calls(alloc, failing)?))
 }
 
-fn code_of<S: Source>(
+pub(crate) fn code_of<S: Source>(
     alloc: Global,
     words: &[Text],
     input: &mut S,
