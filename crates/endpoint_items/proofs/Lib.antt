@@ -11,6 +11,10 @@ pub mod Short
 pub mod Room
 pub mod Rows
 pub mod Rules
+pub mod Quiet
+pub mod Spoken
+pub mod Said
+pub mod Speaking
 mod Worked
 mod WorkedEnds
 mod WorkedRefusals

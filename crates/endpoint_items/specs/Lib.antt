@@ -9,3 +9,4 @@ pub mod Allowed
 pub mod Outcomes
 pub mod Open
 pub mod Rows
+pub mod Spoken

@@ -6,7 +6,7 @@ ghost use Rattle.mux_items.specs.declared.channel.ChannelKey.{ChannelKey};
 ghost use Rattle.rpc_items.specs.Answered.{AnswersOnce};
 ghost use Rattle.rpc_items.specs.Stable.{IsStable, IsReal};
 ghost use Rattle.endpoint_items.specs.Items.{EndItem};
-ghost use Rattle.endpoint_items.specs.Connections.{is_attached, items_of};
+ghost use Rattle.endpoint_items.specs.Connections.{is_attached, was_attached, items_of};
 ghost use Rattle.endpoint_items.specs.Layers.{mux_of, rpc_of};
 ghost use Rattle.endpoint_items.specs.Calls.{EndCall, called};
 ghost use Rattle.endpoint_items.specs.Arriving.{next_message};
@@ -14,6 +14,7 @@ ghost use Rattle.endpoint_items.specs.Allowed.{AreAllowed};
 ghost use Rattle.endpoint_items.specs.Open.{IsOpen};
 ghost use Rattle.endpoint_items.specs.Outcomes.{HasGrown, outcome_on};
 ghost use Rattle.endpoint_items.specs.Rows.{Follows};
+ghost use Rattle.endpoint_items.specs.Spoken.{Speaks};
 
 /// A connection that was attached stays, and its items only grow.
 pub fn connections_grow()
@@ -46,4 +47,10 @@ pub fn nothing_that_follows_is_refused()
 pub fn calls_and_messages_keep_the_rules()
     ensures call { (v : Version) (c : EndCall) (items : List EndItem) → AreAllowed v items → AreAllowed v (called v c items) }
     ensures message { (v : Version) (item : EndItem) (items : List EndItem) → AreAllowed v items → next_message v items ≡ Some item → AreAllowed v (item ∷ items) }
+{}
+
+/// What was written on a channel since a connection was attached is a front of what the connection said, all of it while
+/// writing wasn't completed.
+pub fn what_is_said_is_written()
+    ensures { (v : Version) (c : ChannelKey) (items : List EndItem) → AreAllowed v items → was_attached (rpc_of v c items) ≡ true → Speaks v c items }
 {}
