@@ -15,6 +15,8 @@ pub mod Quiet
 pub mod Spoken
 pub mod Said
 pub mod Speaking
+pub mod Reading
+pub mod Joining
 mod Worked
 mod WorkedEnds
 mod WorkedRefusals

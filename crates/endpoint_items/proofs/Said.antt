@@ -37,21 +37,17 @@ pub item_said : (item : rpc.RpcItem) (x : Connection) → was_attached x ≡ tru
 item_said item (Some items) e = refl
 item_said item None e = cc
 
-pub was_with : (item : rpc.RpcItem) (x : Connection) → was_attached (with_item item x) ≡ true → was_attached x ≡ true
-was_with item (Some items) e = refl
-was_with item None e = e
+pub was_with : (item : rpc.RpcItem) (x : Connection) → was_attached (with_item item x) ≡ was_attached x
+was_with item (Some items) = refl
+was_with item None = refl
 
-pub was_ended : (why : Option Cause) (x : Connection) → was_attached (end_for why x) ≡ true → was_attached x ≡ true
-was_ended None x e = e
-was_ended (Some why) x e = by (is_attached x) e
-  where
-    by : (b : Bool) → was_attached (if b then with_item (rpc.End why) x else x) ≡ true → was_attached x ≡ true
-    by true h = was_with (rpc.End why) x h
-    by false h = h
+pub was_if : (b : Bool) (x y : Connection) → was_attached y ≡ was_attached x → was_attached (if b then y else x) ≡ was_attached x
+was_if true x y h = h
+was_if false x y h = refl
 
-pub was_if : (b : Bool) (x y : Connection) → (was_attached y ≡ true → was_attached x ≡ true) → was_attached (if b then y else x) ≡ true → was_attached x ≡ true
-was_if true x y h e = h e
-was_if false x y h e = e
+pub was_ended : (why : Option Cause) (x : Connection) → was_attached (end_for why x) ≡ was_attached x
+was_ended None x = refl
+was_ended (Some why) x = was_if (is_attached x) x (with_item (rpc.End why) x) (was_with (rpc.End why) x)
 
 -- an item of the multiplexing end writes nothing on a channel with a connection
 pub used_other : (v : Version) (c : ChannelKey) (item : Item) (items : List EndItem) (m : List Item) → was_attached (rpc_of v c items) ≡ true → is_in_use v (used_in item) items ≡ false → written c (item ∷ m) ≡ written c m

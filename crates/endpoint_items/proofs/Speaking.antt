@@ -77,7 +77,7 @@ row_speaks v c (Mux item) items a before e =
     let m = mux_of v items in
     let x = rpc_of v c items in
     let why = end_by v c item (item ∷ m) in
-    let was = was_ended why x e in
+    let was = sym (was_ended why x) ∙ e in
     let attached : ChannelKey → Bool = λ c. is_attached (rpc_of v c items) in
     let now = then_follow v attached item (item ∷ m) in
     let quiet = quiet_more c m (item ∷ m) now (quiet_item c item m (used_other v c item items m was a.0.1)) (quiet_follow v attached c item (item ∷ m)) in
@@ -101,16 +101,16 @@ row_speaks v c (Attach key terms) items a before e = by (same_key key c) refl e
     by true h e = begins terms c m now completed x (attachable v c items (ap (λ k. attach_refusal v k items) (sym (same_key_true key c h)) ∙ a.0)).new (attach_quiet v c key m)
     by false h e = quiet_speaks (terms_of c items) c (written_first v c items) m now x x (attach_quiet v c key m) refl (before e)
 row_speaks v c (DidCall key call) items a before e =
-    let was = was_if (same_key key c) (rpc_of v c items) (with_item (rpc.Did call) (rpc_of v c items)) (was_with (rpc.Did call) (rpc_of v c items)) e in
+    let was = sym (was_if (same_key key c) (rpc_of v c items) (with_item (rpc.Did call) (rpc_of v c items)) (was_with (rpc.Did call) (rpc_of v c items))) ∙ e in
     write_speaks v c key (rpc.Did call) items was (before was)
 row_speaks v c (GotMessage key place size message) items a before e =
-    let was = was_if (same_key key c) (rpc_of v c items) (with_item (rpc.Got place message) (rpc_of v c items)) (was_with (rpc.Got place message) (rpc_of v c items)) e in
+    let was = sym (was_if (same_key key c) (rpc_of v c items) (with_item (rpc.Got place message) (rpc_of v c items)) (was_with (rpc.Got place message) (rpc_of v c items))) ∙ e in
     write_speaks v c key (rpc.Got place message) items was (before was)
 row_speaks v c (RefusedMessage key place reason) items a before e =
     let m = mux_of v items in
     let x = rpc_of v c items in
     let why = Some (cause.Refused (place_at place) reason) in
-    let was = was_if (same_key key c) x (end_for why x) (was_ended why x) e in
+    let was = sym (was_if (same_key key c) x (end_for why x) (was_ended why x)) ∙ e in
     let same : all_said (items_of (if same_key key c then end_for why x else x)) ≡ all_said (items_of x) =
     elim (same_key key c) as (λ b. all_said (items_of (if b then end_for why x else x)) ≡ all_said (items_of x)) [ true ↦ ended_said why x | false ↦ refl ] in
     quiet_speaks (terms_of c items) c (written_first v c items) m (DidTerminate key ∷ m) x (if same_key key c then end_for why x else x) (quiet_item c (DidTerminate key) m refl) same (before was)

@@ -10,3 +10,4 @@ pub mod Outcomes
 pub mod Open
 pub mod Rows
 pub mod Spoken
+pub mod Joined

@@ -11,6 +11,7 @@ ghost use Rattle.endpoint_items.specs.Layers.{mux_of, rpc_of};
 ghost use Rattle.endpoint_items.specs.Calls.{EndCall, called};
 ghost use Rattle.endpoint_items.specs.Arriving.{next_message};
 ghost use Rattle.endpoint_items.specs.Allowed.{AreAllowed};
+ghost use Rattle.endpoint_items.specs.Joined.{Reads};
 ghost use Rattle.endpoint_items.specs.Open.{IsOpen};
 ghost use Rattle.endpoint_items.specs.Outcomes.{HasGrown, outcome_on};
 ghost use Rattle.endpoint_items.specs.Rows.{Follows};
@@ -53,4 +54,9 @@ pub fn calls_and_messages_keep_the_rules()
 /// writing wasn't completed.
 pub fn what_is_said_is_written()
     ensures { (v : Version) (c : ChannelKey) (items : List EndItem) → AreAllowed v items → was_attached (rpc_of v c items) ≡ true → Speaks v c items }
+{}
+
+/// What a connection read is what the reads of its channel answered since it was attached: nobody else read there.
+pub fn what_is_read_is_joined()
+    ensures { (v : Version) (c : ChannelKey) (items : List EndItem) → AreAllowed v items → was_attached (rpc_of v c items) ≡ true → Reads v c items }
 {}
