@@ -17,6 +17,7 @@ pub mod Said
 pub mod Speaking
 pub mod Reading
 pub mod Joining
+pub mod Lying
 mod Worked
 mod WorkedEnds
 mod WorkedRefusals

@@ -1,16 +1,19 @@
 //! Laws of one end's items.
 
-ghost use Rattle.std.specs.Prelude.{◌≡◌, ◌++◌, ◌∷◌, List, Bool, ℕ, true, false, Some};
+ghost use Rattle.std.specs.Prelude.{◌≡◌, ◌<◌, ◌≤◌, ◌++◌, ◌∷◌, length, List, Bool, ℕ, true, false, Some};
 ghost use Rattle.wire_base.specs.declared.frame.Version.{Version};
 ghost use Rattle.mux_items.specs.declared.channel.ChannelKey.{ChannelKey};
 ghost use Rattle.rpc_items.specs.Answered.{AnswersOnce};
 ghost use Rattle.rpc_items.specs.Stable.{IsStable, IsReal};
+ghost use Rattle.rpc_items.specs.declared.messages.Message.{Message};
+ghost use Rattle.rpc_end.specs.Arrivals.{Applies};
 ghost use Rattle.endpoint_items.specs.Items.{EndItem};
 ghost use Rattle.endpoint_items.specs.Connections.{is_attached, was_attached, items_of};
 ghost use Rattle.endpoint_items.specs.Layers.{mux_of, rpc_of};
+ghost use Rattle.endpoint_items.specs.Bytes.{joined, consumed, rest_of};
 ghost use Rattle.endpoint_items.specs.Calls.{EndCall, called};
 ghost use Rattle.endpoint_items.specs.Arriving.{next_message};
-ghost use Rattle.endpoint_items.specs.Allowed.{AreAllowed};
+ghost use Rattle.endpoint_items.specs.Allowed.{Arrives, AreAllowed};
 ghost use Rattle.endpoint_items.specs.Joined.{Reads};
 ghost use Rattle.endpoint_items.specs.Open.{IsOpen};
 ghost use Rattle.endpoint_items.specs.Outcomes.{HasGrown, outcome_on};
@@ -59,4 +62,11 @@ pub fn what_is_said_is_written()
 /// What a connection read is what the reads of its channel answered since it was attached: nobody else read there.
 pub fn what_is_read_is_joined()
     ensures { (v : Version) (c : ChannelKey) (items : List EndItem) → AreAllowed v items → was_attached (rpc_of v c items) ≡ true → Reads v c items }
+{}
+
+/// A message that is applied has a byte and lies in the bytes that weren't applied, so that all of them lie in those
+/// that were read.
+pub fn messages_lie_in_what_was_read()
+    ensures one { (v : Version) (c : ChannelKey) (place size : ℕ) (message : Message) (items : List EndItem) → Arrives v c (Applies place message size) items → (0 < size) × (size ≤ length (rest_of v c items)) }
+    ensures all { (v : Version) (c : ChannelKey) (items : List EndItem) → AreAllowed v items → consumed c items ≤ length (joined v c items) }
 {}
