@@ -1,0 +1,4 @@
+pub mod Next
+pub mod Run
+pub mod Finer
+pub mod Safe

@@ -1,0 +1,31 @@
+-- What holds of every run.
+use Rattle.std.specs.Prelude.{◌≡◌, ℕ, List, ◌++◌, Bool, false}
+use Rattle.wire_base.specs.declared.frame.Version.{Version}
+use Rattle.mux_items.specs.declared.channel.ChannelKey.{ChannelKey}
+use Rattle.mux_run.specs.Run.{Terms}
+use Rattle.mux_run.specs.Safe.{IsSafe}
+use Rattle.mux_credit.specs.Runs.{KeepsCredit}
+use Rattle.rpc_items.specs.Stable.{IsStable, IsReal}
+use Rattle.endpoint_items.specs.Items.{EndItem}
+use Rattle.endpoint_items.specs.Connections.{items_of}
+use Rattle.endpoint_items.specs.Layers.{rpc_of}
+use Rattle.endpoint_items.specs.Outcomes.{outcome_on}
+use Rattle.endpoint_run.specs.Run.{EndWorld, EndStep, in_step, end_run}
+use Rattle.endpoint_run.specs.Finer.{mux_a, mux_b}
+
+-- a request has one outcome: that which was known after older items stays until it is forgotten, and it is the first
+-- response, or the end or the stop with no response before it
+pub record HasOneOutcome (v : Version) (items : List EndItem) : Type 0 where
+  pub stays : (c : ChannelKey) (n : ℕ) (newer older : List EndItem) → items ≡ newer ++ older → IsStable n (items_of (rpc_of v c items)) (outcome_on false v c n older)
+  pub real : (stopped : Bool) (c : ChannelKey) (n : ℕ) → IsReal stopped n (items_of (rpc_of v c items)) (outcome_on stopped v c n items)
+
+-- the multiplexing ends are safe and keep their credit, and each request of either side has one outcome
+pub record IsEndSafe (terms : Terms) (w : EndWorld) : Type 0 where
+  pub mux : IsSafe terms.version (mux_a terms w) (mux_b terms w)
+  pub credit : KeepsCredit terms (mux_a terms w) (mux_b terms w)
+  pub outcomes_a : HasOneOutcome terms.version w.a.items
+  pub outcomes_b : HasOneOutcome terms.version w.b.items
+
+-- so it is at each moment of a step after these steps
+abbrev pub IsSafeIn : Terms → List EndStep → EndStep → Type 0
+IsSafeIn terms steps s = (turns : ℕ) → IsEndSafe terms (in_step terms turns s (end_run terms steps))
