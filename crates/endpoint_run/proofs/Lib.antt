@@ -1,1 +1,10 @@
+pub mod Boundary
+pub mod Delivering
+pub mod Reaching
+pub mod Heard
+pub mod Coming
+pub mod Beginning
+pub mod OneSide
+pub mod Refining
+pub mod Safety
 mod Worked

@@ -1,10 +1,11 @@
 -- When a run of multiplexing ends, in finer steps, has what the multiplexing ends of a run have.
-use Rattle.std.specs.Prelude.{◌≡◌, ℕ, List}
+use Rattle.std.specs.Prelude.{◌≡◌, List}
 use Rattle.mux_items.specs.Items.{Item}
 use Rattle.mux_run.specs.Run.{Terms}
 use Rattle.mux_run.specs.Spending.{RunStep, run_through}
 use Rattle.endpoint_items.specs.Layers.{mux_of}
-use Rattle.endpoint_run.specs.Run.{EndWorld, EndStep, in_step, end_run}
+use Rattle.endpoint_run.specs.Run.{EndWorld, EndStep}
+use Rattle.endpoint_run.specs.Moments.{Moment, at_moment}
 
 -- the items of the multiplexing end of A, and of that of B
 abbrev pub mux_a : Terms → EndWorld → List Item
@@ -18,6 +19,6 @@ pub record Refines (terms : Terms) (fine : List RunStep) (w : EndWorld) : Type 0
   pub a : (run_through terms fine).a.items ≡ mux_a terms w
   pub b : (run_through terms fine).b.items ≡ mux_b terms w
 
--- at each moment of a step after these steps there is such a run
-abbrev pub IsFinerIn : Terms → List EndStep → EndStep → Type 0
-IsFinerIn terms steps s = (turns : ℕ) → (fine : List RunStep) × Refines terms fine (in_step terms turns s (end_run terms steps))
+-- at each moment after these steps there is such a run
+abbrev pub IsFinerRun : Terms → List EndStep → Type 0
+IsFinerRun terms steps = (moment : Moment) → (fine : List RunStep) × Refines terms fine (at_moment terms steps moment)

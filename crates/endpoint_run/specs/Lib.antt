@@ -1,4 +1,5 @@
 pub mod Next
 pub mod Run
+pub mod Moments
 pub mod Finer
 pub mod Safe

@@ -10,7 +10,8 @@ use Rattle.endpoint_items.specs.Items.{EndItem}
 use Rattle.endpoint_items.specs.Connections.{items_of}
 use Rattle.endpoint_items.specs.Layers.{rpc_of}
 use Rattle.endpoint_items.specs.Outcomes.{outcome_on}
-use Rattle.endpoint_run.specs.Run.{EndWorld, EndStep, in_step, end_run}
+use Rattle.endpoint_run.specs.Run.{EndWorld, EndStep}
+use Rattle.endpoint_run.specs.Moments.{Moment, at_moment}
 use Rattle.endpoint_run.specs.Finer.{mux_a, mux_b}
 
 -- a request has one outcome: that which was known after older items stays until it is forgotten, and it is the first
@@ -26,6 +27,6 @@ pub record IsEndSafe (terms : Terms) (w : EndWorld) : Type 0 where
   pub outcomes_a : HasOneOutcome terms.version w.a.items
   pub outcomes_b : HasOneOutcome terms.version w.b.items
 
--- so it is at each moment of a step after these steps
-abbrev pub IsSafeIn : Terms → List EndStep → EndStep → Type 0
-IsSafeIn terms steps s = (turns : ℕ) → IsEndSafe terms (in_step terms turns s (end_run terms steps))
+-- so it is at each moment after these steps
+abbrev pub IsSafeRun : Terms → List EndStep → Type 0
+IsSafeRun terms steps = (moment : Moment) → IsEndSafe terms (at_moment terms steps moment)

@@ -1,2 +1,6 @@
 //! Two ends with connections for remote calls, and the bytes between them: the run of a list of steps.
 #![tactic(auto)]
+
+mod laws;
+
+pub use laws::{every_run_is_a_finer_run, every_run_is_safe};

@@ -1,0 +1,14 @@
+-- The moments of a run, also those within a step.
+use Rattle.std.specs.Prelude.{ℕ, List}
+use Rattle.mux_run.specs.Run.{Terms}
+use Rattle.endpoint_run.specs.Run.{EndWorld, EndStep, in_step, end_run}
+
+-- after some steps, or within the next one, whose side took so many turns
+pub data Moment : Type 0 where
+  After : Moment
+  Within : (s : EndStep) → (turns : ℕ) → Moment
+
+-- both sides at a moment after these steps
+abbrev pub at_moment : Terms → List EndStep → Moment → EndWorld
+at_moment terms steps After = end_run terms steps
+at_moment terms steps (Within s turns) = in_step terms turns s (end_run terms steps)
