@@ -7,4 +7,5 @@ pub mod Beginning
 pub mod OneSide
 pub mod Refining
 pub mod Safety
+pub mod Growing
 mod Worked

@@ -1,6 +1,7 @@
 -- The moments of a run, also those within a step.
-use Rattle.std.specs.Prelude.{ℕ, List}
+use Rattle.std.specs.Prelude.{◌≡◌, ℕ, List, ◌++◌}
 use Rattle.mux_run.specs.Run.{Terms}
+use Rattle.endpoint_items.specs.Items.{EndItem}
 use Rattle.endpoint_run.specs.Run.{EndWorld, EndStep, in_step, end_run}
 
 -- after some steps, or within the next one, whose side took so many turns
@@ -12,3 +13,12 @@ pub data Moment : Type 0 where
 abbrev pub at_moment : Terms → List EndStep → Moment → EndWorld
 at_moment terms steps After = end_run terms steps
 at_moment terms steps (Within s turns) = in_step terms turns s (end_run terms steps)
+
+-- the older items, with newer ones before them
+abbrev pub IsNewer : (before after : List EndItem) → Type 0
+IsNewer before after = (newer : List EndItem) × (after ≡ newer ++ before)
+
+-- so it is at both sides
+pub record HasGrown (before after : EndWorld) : Type 0 where
+  pub a : IsNewer before.a.items after.a.items
+  pub b : IsNewer before.b.items after.b.items

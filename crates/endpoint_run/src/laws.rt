@@ -1,8 +1,9 @@
 //! Laws of every run.
 
-ghost use Rattle.std.specs.Prelude.{List};
+ghost use Rattle.std.specs.Prelude.{◌≤◌, ◌++◌, ℕ, List};
 ghost use Rattle.mux_run.specs.Run.{Terms};
-ghost use Rattle.endpoint_run.specs.Run.{EndStep};
+ghost use Rattle.endpoint_run.specs.Run.{EndStep, EndWorld, in_step, end_run};
+ghost use Rattle.endpoint_run.specs.Moments.{HasGrown};
 ghost use Rattle.endpoint_run.specs.Finer.{IsFinerRun};
 ghost use Rattle.endpoint_run.specs.Safe.{IsSafeRun};
 
@@ -14,4 +15,11 @@ pub fn every_run_is_a_finer_run()
 /// Every run is safe and keeps its credit at each moment, and each of its requests has one outcome.
 pub fn every_run_is_safe()
     ensures { (terms : Terms) (steps : List EndStep) → IsSafeRun terms steps }
+{}
+
+/// From each moment of a run to each later one items are only added: within a step, turn after turn, and from step to step.
+pub fn items_are_only_added()
+    ensures step { (terms : Terms) (turns : ℕ) (s : EndStep) (w : EndWorld) → HasGrown w (in_step terms turns s w) }
+    ensures turns { (terms : Terms) (fewer turns : ℕ) (s : EndStep) (w : EndWorld) → fewer ≤ turns → HasGrown (in_step terms fewer s w) (in_step terms turns s w) }
+    ensures run { (terms : Terms) (steps more : List EndStep) → HasGrown (end_run terms steps) (end_run terms (steps ++ more)) }
 {}
