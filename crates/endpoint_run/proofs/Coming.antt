@@ -1,17 +1,15 @@
 -- The multiplexing end reaches what each item of its end makes of it.
-use Rattle.std.specs.Prelude.{if◌then◌else◌, not, nat_le, Bool, true, false, zero, suc}
-use Rattle.std.proofs.Common.{◌≡◌, ℕ, ◌≤◌, List, [], ◌∷◌, length, refl, sym, subst, leb-true, Option, Some, None}
+use Rattle.std.specs.Prelude.{if◌then◌else◌, not, Bool, true, false}
+use Rattle.std.proofs.Common.{◌≡◌, ℕ, ◌≤◌, List, [], ◌∷◌, length, refl, sym, subst, Some, None}
 use Rattle.wire_base.specs.declared.frame.Version.{Version}
 use Rattle.wire_base.specs.declared.state.Cause.TheVariants as cause
 use Rattle.mux_items.specs.declared.call.Call.TheVariants as call
 use Rattle.mux_items.specs.declared.channel.ChannelKey.{ChannelKey}
-use Rattle.mux_items.specs.Bodies.{ChannelFrame}
 use Rattle.mux_items.specs.Due.{got}
 use Rattle.mux_items.specs.Items.{Item, End, is_running}
 use Rattle.mux_items.specs.Limits.{most_bytes}
-use Rattle.mux_items.specs.Refusals.{is_ready}
 use Rattle.mux_items.specs.Views.{in_order}
-use Rattle.mux_run.specs.Run.{RunSide, SideTerms, greeting_size, next_frames, place_after, greet}
+use Rattle.mux_run.specs.Run.{RunSide, SideTerms, place_after, greet}
 use Rattle.mux_run.specs.declared.steps.Side.{Side}
 use Rattle.rpc_items.specs.Items as rpc
 use Rattle.rpc_items.specs.Saying.{said}
@@ -20,23 +18,11 @@ use Rattle.endpoint_items.specs.Items.{EndItem, Mux, Attach, DidCall, GotMessage
 use Rattle.endpoint_items.specs.Connections.{is_attached, items_of}
 use Rattle.endpoint_items.specs.Following.{follow_ups, write_said}
 use Rattle.endpoint_items.specs.Layers.{mux_of, rpc_of}
-use Rattle.endpoint_items.specs.Arriving.{lacks_room, arrival_on, item_of_arrival, message_on, either, first_message, next_message}
-use Rattle.endpoint_run.specs.Next.{frame_item, first_frame, next_of_peer, next_item, with_next, settled_in}
+use Rattle.endpoint_items.specs.Arriving.{lacks_room, arrival_on, item_of_arrival, message_on, first_message, next_message}
+use Rattle.endpoint_run.specs.Next.{frame_item, next_of_peer, next_item, settled_in}
 use Rattle.endpoint_run.proofs.Reaching.{Reach, reach_same, reach_more, reach_calls, reach_spend}
 use Rattle.endpoint_run.proofs.Heard.{reach_frame, reach_greet}
-
--- what is so of an item, where there is one
-abbrev pub IfItem : (EndItem → Type 0) → Option EndItem → Type 0
-IfItem P (Some item) = P item
-IfItem P None = Unit {0}
-
-pub either_if : (P : EndItem → Type 0) (a b : Option EndItem) → IfItem P a → IfItem P b → IfItem P (either a b)
-either_if P (Some item) b p q = p
-either_if P None b p q = q
-
-pub if_every : (P Q : EndItem → Type 0) (item : Option EndItem) → ((item : EndItem) → P item → Q item) → IfItem P item → IfItem Q item
-if_every P Q (Some item) h p = h item p
-if_every P Q None h p = tt
+use Rattle.endpoint_run.proofs.Turns.{IfItem, either_if, if_every, peer_if, next_if, settled_if}
 
 -- items that are messages, or the end in place of one
 abbrev pub IsByMessage : EndItem → Type 0
@@ -84,42 +70,24 @@ comes_message side w n items (RefusedMessage c place reason) runs e = reach_call
 
 comes_peer : (side : Side) (w : SideTerms) (given : ℕ) (n : RunSide) (items : List EndItem) → given ≤ most_bytes → is_running (mux_of w.version items) ≡ true
     → IfItem (Comes side w n items) (next_of_peer w given (mux_of w.version items) n)
-comes_peer side w given n items most runs = by (is_ready w.version m) refl
-  where
-    m : List Item
-    m = mux_of w.version items
-
-    frames : is_ready w.version m ≡ true → (fs : List ChannelFrame) → next_frames w given (length (got m)) n ≡ fs → IfItem (Comes side w n items) (first_frame w.version (place_after w (length (got m)) n) m fs)
-    frames ready [] e = tt
-    frames ready (f ∷ fs) e = comes_mux side w n items (frame_item w.version (place_after w (length (got m)) n) f m) (reach_frame side w n m given f fs most runs ready e)
-
-    hello : is_ready w.version m ≡ false → (b : Bool) → nat_le (greeting_size w) given ≡ b → IfItem (Comes side w n items) (if b then Some (Mux (greet w)) else None)
-    hello unready true e = comes_mux side w n items (greet w) (reach_greet side w n m given most (leb-true (greeting_size w) given e) runs unready)
-    hello unready false e = tt
-
-    by : (b : Bool) → is_ready w.version m ≡ b
-        → IfItem (Comes side w n items) (if b then first_frame w.version (place_after w (length (got m)) n) m (next_frames w given (length (got m)) n) else if nat_le (greeting_size w) given then Some (Mux (greet w)) else None)
-    by true e = frames e (next_frames w given (length (got m)) n) refl
-    by false e = hello e (nat_le (greeting_size w) given) refl
+comes_peer side w given n items most runs =
+    let m = mux_of w.version items in
+    peer_if (Comes side w n items) w given m n
+    (λ ready f fs e. comes_mux side w n items (frame_item w.version (place_after w (length (got m)) n) f m) (reach_frame side w n m given f fs most runs ready e))
+    (λ unready fits. comes_mux side w n items (greet w) (reach_greet side w n m given most fits runs unready))
 
 pub comes_next : (side : Side) (w : SideTerms) (given : ℕ) (n : RunSide) (items : List EndItem) → given ≤ most_bytes → IfItem (Comes side w n items) (next_item w given n items)
-comes_next side w given n items most = by (is_running (mux_of w.version items)) refl
-  where
-    by : (b : Bool) → is_running (mux_of w.version items) ≡ b → IfItem (Comes side w n items) (if b then either (next_message w.version items) (next_of_peer w given (mux_of w.version items) n) else None)
-    by true runs = either_if (Comes side w n items) (next_message w.version items) (next_of_peer w given (mux_of w.version items) n)
-        (if_every IsByMessage (Comes side w n items) (next_message w.version items) (λ item e. comes_message side w n items item runs e) (by_first w.version items (in_order (attached_keys items))))
-        (comes_peer side w given n items most runs)
-    by false stops = tt
+comes_next side w given n items most = next_if (Comes side w n items) w given n items
+    (λ runs. if_every IsByMessage (Comes side w n items) (next_message w.version items) (λ item e. comes_message side w n items item runs e) (by_first w.version items (in_order (attached_keys items))))
+    (λ runs. comes_peer side w given n items most runs)
 
 -- so many turns
 
 pub comes_settled : (side : Side) (w : SideTerms) (given : ℕ) (n : RunSide) (turns : ℕ) (items : List EndItem) → given ≤ most_bytes
     → Reach side w n (mux_of w.version items) (mux_of w.version (settled_in w given n turns items))
-comes_settled side w given n zero items most = reach_same side w n (mux_of w.version items)
-comes_settled side w given n (suc turns) items most = by (next_item w given n items) (comes_next side w given n items most) (λ item. comes_settled side w given n turns (item ∷ items) most)
-  where
-    by : (next : Option EndItem) → IfItem (Comes side w n items) next
-        → ((item : EndItem) → Reach side w n (mux_of w.version (item ∷ items)) (mux_of w.version (settled_in w given n turns (item ∷ items))))
-        → Reach side w n (mux_of w.version items) (mux_of w.version (with_next next items (λ item. settled_in w given n turns (item ∷ items))))
-    by (Some item) comes ih = reach_more side w n (mux_of w.version items) (mux_of w.version (item ∷ items)) (mux_of w.version (settled_in w given n turns (item ∷ items))) comes (ih item)
-    by None comes ih = reach_same side w n (mux_of w.version items)
+comes_settled side w given n turns items most =
+    let m = mux_of w.version items in
+    let Reaches : List EndItem → Type 0 = λ after. Reach side w n m (mux_of w.version after) in
+    settled_if Reaches w given n
+    (λ after r. if_every (Comes side w n after) (λ item. Reaches (item ∷ after)) (next_item w given n after) (λ item comes. reach_more side w n m (mux_of w.version after) (mux_of w.version (item ∷ after)) r comes) (comes_next side w given n after most))
+    turns items (reach_same side w n m)

@@ -112,15 +112,20 @@ got_greet w m = elim (greet_by w m) [
   | inr h ↦ ap (λ item. got (item ∷ m)) h
 ]
 
+-- once it is whole
+pub greeted_now : (w : SideTerms) (given : ℕ) (m : List Item) → is_running m ≡ true → is_ready w.version m ≡ false → greeting_size w ≤ given → greeted w given m ≡ greet w ∷ m
+greeted_now w given m runs unready h =
+    let test : (is_running m && not (is_ready w.version m) && nat_le (greeting_size w) given) ≡ true =
+    and_from (is_running m && not (is_ready w.version m)) (nat_le (greeting_size w) given) (and_from (is_running m) (not (is_ready w.version m)) runs (ap not unready)) (le-leb (greeting_size w) given h) in
+    ap (λ b. if b then greet w ∷ m else m) test
+
 pub greet_fine : (w : SideTerms) (side : Side) (m : List Item) (d : ℕ) (n : RunSide) → AtBoundary w m d → is_running m ≡ true → is_ready w.version m ≡ false → greeting_size w ≤ most_bytes
     → side_after w (step.Deliver side (greeting_size w)) (run_side m d) n ≡ run_side (greet w ∷ m) (greeting_size w)
 greet_fine w side m d n b runs unready most =
     let size = greeting_size w in
     let none = at_start w m d b runs unready in
     let within : size ≤ length (out w.version w.peer n.items) = omega (arith, length-append (hello w.version w.peer) (frame_texts w.version (sent w.version n.items))) in
-    let test : (is_running m && not (is_ready w.version m) && nat_le size size) ≡ true =
-    and_from (is_running m && not (is_ready w.version m)) (nat_le size size) (and_from (is_running m) (not (is_ready w.version m)) runs (ap not unready)) (le-leb size size (omega arith)) in
-    let on : greeted w size m ≡ greet w ∷ m = ap (λ b. if b then greet w ∷ m else m) test in
+    let on = greeted_now w size m runs unready (omega arith) in
     let after = greet w ∷ m in
     let zero_left : size - size ≡ 0 = omega arith in
     let next : next_frames w size (length (got after)) n ≡ [] =

@@ -7,6 +7,7 @@ use Rattle.mux_run.specs.Safe.{IsSafe}
 use Rattle.mux_credit.specs.Runs.{KeepsCredit}
 use Rattle.rpc_items.specs.Stable.{IsStable, IsReal}
 use Rattle.endpoint_items.specs.Items.{EndItem}
+use Rattle.endpoint_items.specs.Allowed.{AreAllowed}
 use Rattle.endpoint_items.specs.Connections.{items_of}
 use Rattle.endpoint_items.specs.Layers.{rpc_of}
 use Rattle.endpoint_items.specs.Outcomes.{outcome_on}
@@ -30,3 +31,12 @@ pub record IsEndSafe (terms : Terms) (w : EndWorld) : Type 0 where
 -- so it is at each moment after these steps
 abbrev pub IsSafeRun : Terms → List EndStep → Type 0
 IsSafeRun terms steps = (moment : Moment) → IsEndSafe terms (at_moment terms steps moment)
+
+-- each item at both sides was allowed where it stands
+pub record KeepsRules (terms : Terms) (w : EndWorld) : Type 0 where
+  pub a : AreAllowed terms.version w.a.items
+  pub b : AreAllowed terms.version w.b.items
+
+-- so it is at each moment after these steps
+abbrev pub KeepsRulesRun : Terms → List EndStep → Type 0
+KeepsRulesRun terms steps = (moment : Moment) → KeepsRules terms (at_moment terms steps moment)

@@ -5,7 +5,7 @@ ghost use Rattle.mux_run.specs.Run.{Terms};
 ghost use Rattle.endpoint_run.specs.Run.{EndStep, EndWorld, in_step, end_run};
 ghost use Rattle.endpoint_run.specs.Moments.{HasGrown};
 ghost use Rattle.endpoint_run.specs.Finer.{IsFinerRun};
-ghost use Rattle.endpoint_run.specs.Safe.{IsSafeRun};
+ghost use Rattle.endpoint_run.specs.Safe.{IsSafeRun, KeepsRulesRun};
 
 /// At each moment of every run the multiplexing ends are those of a run of finer steps.
 pub fn every_run_is_a_finer_run()
@@ -22,4 +22,10 @@ pub fn items_are_only_added()
     ensures step { (terms : Terms) (turns : ℕ) (s : EndStep) (w : EndWorld) → HasGrown w (in_step terms turns s w) }
     ensures turns { (terms : Terms) (fewer turns : ℕ) (s : EndStep) (w : EndWorld) → fewer ≤ turns → HasGrown (in_step terms fewer s w) (in_step terms turns s w) }
     ensures run { (terms : Terms) (steps more : List EndStep) → HasGrown (end_run terms steps) (end_run terms (steps ++ more)) }
+{}
+
+/// At each moment of every run each item at both sides was allowed where it stands. So what is proved of the items of one
+/// end that keep the rules holds of both.
+pub fn every_run_keeps_the_rules()
+    ensures { (terms : Terms) (steps : List EndStep) → KeepsRulesRun terms steps }
 {}

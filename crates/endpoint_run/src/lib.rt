@@ -3,4 +3,4 @@
 
 mod laws;
 
-pub use laws::{every_run_is_a_finer_run, every_run_is_safe, items_are_only_added};
+pub use laws::{every_run_is_a_finer_run, every_run_is_safe, every_run_keeps_the_rules, items_are_only_added};
