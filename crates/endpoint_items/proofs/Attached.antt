@@ -42,7 +42,7 @@ with_end : (why : Cause) (x : Connection) → is_attached (with_item (rpc.End wh
 with_end why (Some items) e = cc
 with_end why None e = cc
 
-still_attached : (why : Option Cause) (x : Connection) → is_attached (end_for why x) ≡ true → (why ≡ None) × (is_attached x ≡ true)
+pub still_attached : (why : Option Cause) (x : Connection) → is_attached (end_for why x) ≡ true → (why ≡ None) × (is_attached x ≡ true)
 still_attached None x e = (refl, e)
 still_attached (Some why) x e = by (is_attached x) refl e
   where
@@ -50,17 +50,17 @@ still_attached (Some why) x e = by (is_attached x) refl e
     by true h g = absurd (with_end why x g)
     by false h g = cc (h, g)
 
-did_attached : (b : Bool) (call : rpc.RpcCall) (x : Connection) → is_attached (if b then with_item (rpc.Did call) x else x) ≡ true → is_attached x ≡ true
+pub did_attached : (b : Bool) (call : rpc.RpcCall) (x : Connection) → is_attached (if b then with_item (rpc.Did call) x else x) ≡ true → is_attached x ≡ true
 did_attached true call (Some items) e = e
 did_attached true call None e = e
 did_attached false call x e = e
 
-got_attached : (b : Bool) (place : ℕ) (message : Message) (x : Connection) → is_attached (if b then with_item (rpc.Got place message) x else x) ≡ true → is_attached x ≡ true
+pub got_attached : (b : Bool) (place : ℕ) (message : Message) (x : Connection) → is_attached (if b then with_item (rpc.Got place message) x else x) ≡ true → is_attached x ≡ true
 got_attached true place message (Some items) e = e
 got_attached true place message None e = e
 got_attached false place message x e = e
 
-if_apart : (b : Bool) (x y : Connection) → b ≡ false → is_attached (if b then y else x) ≡ true → is_attached x ≡ true
+pub if_apart : (b : Bool) (x y : Connection) → b ≡ false → is_attached (if b then y else x) ≡ true → is_attached x ≡ true
 if_apart b x y h e = rw h at e
 
 -- a connection that hasn't ended goes on

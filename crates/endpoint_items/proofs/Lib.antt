@@ -18,6 +18,9 @@ pub mod Speaking
 pub mod Reading
 pub mod Joining
 pub mod Lying
+pub mod AllRead
+pub mod AttachedKeys
+pub mod Empty
 mod Worked
 mod WorkedEnds
 mod WorkedRefusals
