@@ -101,7 +101,7 @@ begun_bounded w (Calls side c) x y h = h
 begun_bounded w (Delivers side n) x y h = given_bounded w n x y h
 begun_bounded w (Ends side) x y h = elim (is_running (mux_of w.version x.items)) as (λ b. (if b then with_item (Mux (End cause.InputEnded)) x else x).delivered ≤ most_bytes) [ true ↦ h | false ↦ h ]
 
-reach_begun : (side : Side) (w : SideTerms) (s : EndStep) (o : RunSide) (x y : EndSide) → Reach side w o (mux_of w.version x.items) (mux_of w.version (begun w s x y).items)
+pub reach_begun : (side : Side) (w : SideTerms) (s : EndStep) (o : RunSide) (x y : EndSide) → Reach side w o (mux_of w.version x.items) (mux_of w.version (begun w s x y).items)
 reach_begun side w (Calls to c) o x y = comes_called side w o c x.items
 reach_begun side w (Delivers to n) o x y = reach_given side w n o x y
 reach_begun side w (Ends to) o x y = reach_ended side w o x

@@ -65,7 +65,7 @@ begun_newer w (Ends side) x y = elim (runs w.version x) as (λ b. IsNewer x.item
   | false ↦ newer_same x.items
 ]
 
-side_newer : (w : SideTerms) (turns : ℕ) (s : EndStep) (x y : EndSide) → IsNewer x.items (side_in w turns s x y).items
+pub side_newer : (w : SideTerms) (turns : ℕ) (s : EndStep) (x y : EndSide) → IsNewer x.items (side_in w turns s x y).items
 side_newer w turns s x y =
     let b = begun w s x y in
     newer_more x.items b.items (side_in w turns s x y).items (begun_newer w s x y) (settled_newer w b.delivered (mux_side w.version y) turns b.items)

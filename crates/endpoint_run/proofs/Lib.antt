@@ -10,4 +10,12 @@ pub mod Refining
 pub mod Safety
 pub mod Growing
 pub mod Allowing
+pub mod Applied
+pub mod Shorter
+pub mod Pending
+pub mod Smaller
+pub mod Underway
+pub mod Settling
+pub mod Emitted
+pub mod Settled
 mod Worked

@@ -21,7 +21,7 @@ use Rattle.endpoint_run.proofs.Boundary.{run_side, AtBoundary}
 use Rattle.endpoint_run.proofs.OneSide.{at_a, at_b, come_from-append}
 use Rattle.endpoint_run.proofs.Beginning.{begun_bounded, reach_step}
 
-fresh_boundary : (w : SideTerms) → AtBoundary w [] 0
+pub fresh_boundary : (w : SideTerms) → AtBoundary w [] 0
 fresh_boundary w = record { at = λ r. by w.version; waits = λ u. refl }
   where
     by : (v : Version) → 0 ≡ (if is_ready v [] then length (hello v w.peer) + length (frame_texts v []) else 0)

@@ -3,3 +3,4 @@ pub mod Run
 pub mod Moments
 pub mod Finer
 pub mod Safe
+pub mod Settled

@@ -6,6 +6,7 @@ ghost use Rattle.endpoint_run.specs.Run.{EndStep, EndWorld, in_step, end_run};
 ghost use Rattle.endpoint_run.specs.Moments.{HasGrown};
 ghost use Rattle.endpoint_run.specs.Finer.{IsFinerRun};
 ghost use Rattle.endpoint_run.specs.Safe.{IsSafeRun, KeepsRulesRun};
+ghost use Rattle.endpoint_run.specs.Settled.{IsSettled, TakesTurnsEnough, IsWithinRun};
 
 /// At each moment of every run the multiplexing ends are those of a run of finer steps.
 pub fn every_run_is_a_finer_run()
@@ -28,4 +29,17 @@ pub fn items_are_only_added()
 /// end that keep the rules holds of both.
 pub fn every_run_keeps_the_rules()
     ensures { (terms : Terms) (steps : List EndStep) → KeepsRulesRun terms steps }
+{}
+
+/// After each step of every run nothing whole is left to either side: no handshake or frame of what was delivered to it, and
+/// no message of what its connections read. The step takes turns enough for that, so that more of them change nothing.
+pub fn every_step_applies_all_that_is_whole()
+    ensures settled { (terms : Terms) (steps : List EndStep) → IsSettled terms (end_run terms steps) }
+    ensures enough { (terms : Terms) (steps : List EndStep) (s : EndStep) → TakesTurnsEnough terms s (end_run terms steps) }
+{}
+
+/// At each moment of every run what a running side applied lies in what was delivered to it, and that in what the other
+/// side emitted.
+pub fn every_run_applies_what_was_delivered()
+    ensures { (terms : Terms) (steps : List EndStep) → IsWithinRun terms steps }
 {}

@@ -3,4 +3,7 @@
 
 mod laws;
 
-pub use laws::{every_run_is_a_finer_run, every_run_is_safe, every_run_keeps_the_rules, items_are_only_added};
+pub use laws::{
+    every_run_applies_what_was_delivered, every_run_is_a_finer_run, every_run_is_safe,
+    every_run_keeps_the_rules, every_step_applies_all_that_is_whole, items_are_only_added,
+};
