@@ -18,4 +18,5 @@ pub mod Underway
 pub mod Settling
 pub mod Emitted
 pub mod Settled
+pub mod Midway
 mod Worked

@@ -51,19 +51,19 @@ other_emitted : (w : SideTerms) (x y after : EndSide) → IsNewer y.items after.
 other_emitted w x y after g h = omega (arith, h, out_grows w.version w.peer y.items after.items g)
 
 -- both sides, with what the finer run gave them
-record AreUnderway (terms : Terms) (w : EndWorld) : Type 0 where
-  fine_a : ℕ
-  fine_b : ℕ
-  joined : Joined (terms_at_a terms) (run_side (mux_a terms w) fine_a) (run_side (mux_b terms w) fine_b)
-  a : HasApplied (terms_at_a terms) w.a.delivered fine_a w.a.items
-  b : HasApplied (terms_at_b terms) w.b.delivered fine_b w.b.items
-  emitted_a : w.a.delivered ≤ length (out terms.version terms.nonce_b (mux_b terms w))
-  emitted_b : w.b.delivered ≤ length (out terms.version terms.nonce_a (mux_a terms w))
+pub record AreUnderway (terms : Terms) (w : EndWorld) : Type 0 where
+  pub fine_a : ℕ
+  pub fine_b : ℕ
+  pub joined : Joined (terms_at_a terms) (run_side (mux_a terms w) fine_a) (run_side (mux_b terms w) fine_b)
+  pub a : HasApplied (terms_at_a terms) w.a.delivered fine_a w.a.items
+  pub b : HasApplied (terms_at_b terms) w.b.delivered fine_b w.b.items
+  pub emitted_a : w.a.delivered ≤ length (out terms.version terms.nonce_b (mux_b terms w))
+  pub emitted_b : w.b.delivered ≤ length (out terms.version terms.nonce_a (mux_a terms w))
 
-underway_a : (terms : Terms) (w : EndWorld) (h : AreUnderway terms w) → IsUnderway (terms_at_a terms) w.a.delivered (run_side (mux_b terms w) h.fine_b) w.a.items
+pub underway_a : (terms : Terms) (w : EndWorld) (h : AreUnderway terms w) → IsUnderway (terms_at_a terms) w.a.delivered (run_side (mux_b terms w) h.fine_b) w.a.items
 underway_a terms w h = record { fine = h.fine_a; joined = h.joined; applied = h.a }
 
-underway_b : (terms : Terms) (w : EndWorld) (h : AreUnderway terms w) → IsUnderway (terms_at_b terms) w.b.delivered (run_side (mux_a terms w) h.fine_a) w.b.items
+pub underway_b : (terms : Terms) (w : EndWorld) (h : AreUnderway terms w) → IsUnderway (terms_at_b terms) w.b.delivered (run_side (mux_a terms w) h.fine_a) w.b.items
 underway_b terms w h = record {
   fine = h.fine_b;
   joined = turned_joined (terms_at_a terms) (run_side (mux_a terms w) h.fine_a) (run_side (mux_b terms w) h.fine_b) h.joined;
@@ -120,7 +120,7 @@ from_underway : (terms : Terms) (w : EndWorld) (steps : List EndStep) → AreUnd
 from_underway terms w [] h = h
 from_underway terms w (s ∷ steps) h = from_underway terms (happens terms s w) steps (happens_underway terms (side_of s) s w h)
 
-run_underway : (terms : Terms) (steps : List EndStep) → AreUnderway terms (end_run terms steps)
+pub run_underway : (terms : Terms) (steps : List EndStep) → AreUnderway terms (end_run terms steps)
 run_underway terms steps = from_underway terms start steps (start_underway terms)
 
 moment_underway : (terms : Terms) (steps : List EndStep) (moment : Moment) → AreUnderway terms (at_moment terms steps moment)

@@ -32,7 +32,7 @@ settles w given y (suc turns) items h b = by (next_item w given y items) refl (u
     by None e on more = e
 
 -- where nothing is next turns change nothing
-stays : (w : SideTerms) (given : ℕ) (y : RunSide) (turns : ℕ) (items : List EndItem) → next_item w given y items ≡ None → settled_in w given y turns items ≡ items
+pub stays : (w : SideTerms) (given : ℕ) (y : RunSide) (turns : ℕ) (items : List EndItem) → next_item w given y items ≡ None → settled_in w given y turns items ≡ items
 stays w given y zero items e = refl
 stays w given y (suc turns) items e = ap (λ next. with_next next items (λ item. settled_in w given y turns (item ∷ items))) e
 

@@ -4,3 +4,4 @@ pub mod Moments
 pub mod Finer
 pub mod Safe
 pub mod Settled
+pub mod Midway

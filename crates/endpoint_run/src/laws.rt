@@ -1,12 +1,18 @@
 //! Laws of every run.
 
-ghost use Rattle.std.specs.Prelude.{◌≤◌, ◌++◌, ℕ, List};
-ghost use Rattle.mux_run.specs.Run.{Terms};
-ghost use Rattle.endpoint_run.specs.Run.{EndStep, EndWorld, in_step, end_run};
+ghost use Rattle.std.specs.Prelude.{◌≡◌, ◌≤◌, ◌+◌, ◌++◌, ◌∷◌, ℕ, List, true, Some, None};
+ghost use Rattle.mux_items.specs.Items.{is_running};
+ghost use Rattle.mux_run.specs.Run.{Terms, SideTerms, RunSide};
+ghost use Rattle.mux_run.specs.Fed.{LieWithin};
+ghost use Rattle.endpoint_items.specs.Items.{EndItem};
+ghost use Rattle.endpoint_items.specs.Layers.{mux_of};
+ghost use Rattle.endpoint_run.specs.Next.{next_item, settled_in};
+ghost use Rattle.endpoint_run.specs.Run.{EndStep, EndWorld, side_of, in_step, end_run};
 ghost use Rattle.endpoint_run.specs.Moments.{HasGrown};
 ghost use Rattle.endpoint_run.specs.Finer.{IsFinerRun};
 ghost use Rattle.endpoint_run.specs.Safe.{IsSafeRun, KeepsRulesRun};
 ghost use Rattle.endpoint_run.specs.Settled.{IsSettled, TakesTurnsEnough, IsWithinRun};
+ghost use Rattle.endpoint_run.specs.Midway.{all_applied, IsMidway, GoesOn, BeginsMidway};
 
 /// At each moment of every run the multiplexing ends are those of a run of finer steps.
 pub fn every_run_is_a_finer_run()
@@ -42,4 +48,14 @@ pub fn every_step_applies_all_that_is_whole()
 /// side emitted.
 pub fn every_run_applies_what_was_delivered()
     ensures { (terms : Terms) (steps : List EndStep) → IsWithinRun terms steps }
+{}
+
+/// The side of a step applies one item after the other. Each takes a byte at least, is a turn, and leads where the step does;
+/// where no item is next the side is there. On its way all frames that it applied lie in what was delivered to it.
+pub fn items_are_applied_one_by_one()
+    ensures begins { (terms : Terms) (steps : List EndStep) (s : EndStep) → BeginsMidway terms (side_of s) s (end_run terms steps) }
+    ensures goes_on { (w : SideTerms) (given : ℕ) (y : RunSide) (item : EndItem) (items : List EndItem) → IsMidway w given y items → next_item w given y items ≡ Some item → GoesOn w given y items item }
+    ensures turn { (w : SideTerms) (given : ℕ) (y : RunSide) (turns : ℕ) (item : EndItem) (items : List EndItem) → next_item w given y (settled_in w given y turns items) ≡ Some item → settled_in w given y (turns + 1) items ≡ item ∷ settled_in w given y turns items }
+    ensures ends { (w : SideTerms) (given : ℕ) (y : RunSide) (items : List EndItem) → next_item w given y items ≡ None → all_applied w given y items ≡ items }
+    ensures lies { (w : SideTerms) (given : ℕ) (y : RunSide) (items : List EndItem) → IsMidway w given y items → is_running (mux_of w.version items) ≡ true → LieWithin w given (mux_of w.version items) y }
 {}
