@@ -19,4 +19,5 @@ pub mod Settling
 pub mod Emitted
 pub mod Settled
 pub mod Midway
+pub mod Quiet
 mod Worked

@@ -50,11 +50,11 @@ turns_enough w given y (suc fewer) (suc turns) items h e = by (next_item w given
 
 -- more frames of the other side bring nothing of what was delivered before
 
-either_none : (a b : Option EndItem) → either a b ≡ None → (a ≡ None) × (b ≡ None)
+pub either_none : (a b : Option EndItem) → either a b ≡ None → (a ≡ None) × (b ≡ None)
 either_none (Some item) b e = cc
 either_none None b e = (refl, e)
 
-none_first : (v : Version) (place : ℕ) (m : List Item) (fs : List ChannelFrame) → first_frame v place m fs ≡ None → fs ≡ []
+pub none_first : (v : Version) (place : ℕ) (m : List Item) (fs : List ChannelFrame) → first_frame v place m fs ≡ None → fs ≡ []
 none_first v place m [] e = refl
 none_first v place m (f ∷ fs) e = cc
 

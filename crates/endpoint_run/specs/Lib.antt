@@ -5,3 +5,4 @@ pub mod Finer
 pub mod Safe
 pub mod Settled
 pub mod Midway
+pub mod Quiet

@@ -12,6 +12,7 @@ ghost use Rattle.endpoint_run.specs.Moments.{HasGrown};
 ghost use Rattle.endpoint_run.specs.Finer.{IsFinerRun};
 ghost use Rattle.endpoint_run.specs.Safe.{IsSafeRun, KeepsRulesRun};
 ghost use Rattle.endpoint_run.specs.Settled.{IsSettled, TakesTurnsEnough, IsWithinRun};
+ghost use Rattle.endpoint_run.specs.Quiet.{DeliversAll};
 ghost use Rattle.endpoint_run.specs.Midway.{all_applied, IsMidway, GoesOn, BeginsMidway};
 
 /// At each moment of every run the multiplexing ends are those of a run of finer steps.
@@ -58,4 +59,10 @@ pub fn items_are_applied_one_by_one()
     ensures turn { (w : SideTerms) (given : ℕ) (y : RunSide) (turns : ℕ) (item : EndItem) (items : List EndItem) → next_item w given y (settled_in w given y turns items) ≡ Some item → settled_in w given y (turns + 1) items ≡ item ∷ settled_in w given y turns items }
     ensures ends { (w : SideTerms) (given : ℕ) (y : RunSide) (items : List EndItem) → next_item w given y items ≡ None → all_applied w given y items ≡ items }
     ensures lies { (w : SideTerms) (given : ℕ) (y : RunSide) (items : List EndItem) → IsMidway w given y items → is_running (mux_of w.version items) ≡ true → LieWithin w given (mux_of w.version items) y }
+{}
+
+/// Where after the steps of a run both ends run, all that each emitted was delivered and nothing is unread, all that was
+/// written on a channel that is live at both was handed over.
+pub fn quiet_runs_deliver_all()
+    ensures { (terms : Terms) (steps : List EndStep) → DeliversAll terms steps }
 {}
