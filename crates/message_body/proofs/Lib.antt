@@ -3,3 +3,5 @@ pub mod Spellings
 pub mod Lengths
 pub mod Sizes
 pub mod Within
+pub mod Norms
+pub mod Again

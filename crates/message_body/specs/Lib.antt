@@ -1,3 +1,4 @@
 pub mod Found
 pub mod Written
 pub mod Replies
+pub mod AsRead

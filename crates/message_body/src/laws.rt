@@ -9,9 +9,11 @@ ghost use Rattle.pack_value.specs.Answer.{IsAtFront, IsUndecided};
 ghost use Rattle.pack_value.specs.Spelling.{IsSpelling};
 ghost use Rattle.pack_value.specs.Tokens.{IsRefused};
 ghost use Rattle.rpc_items.specs.Fitting.{IsFair};
+ghost use Rattle.rpc_items.specs.declared.messages.Message.{Message};
+ghost use Rattle.message_body.specs.AsRead.{as_read, IsWritable};
 ghost use Rattle.message_body.specs.declared.encoding.Encoding.{Encoding};
-ghost use Rattle.message_body.specs.Found.{json_in, pack_in};
-ghost use Rattle.message_body.specs.Written.{encoder};
+ghost use Rattle.message_body.specs.Found.{body_in, json_in, pack_in};
+ghost use Rattle.message_body.specs.Written.{body_text, encoder};
 
 /// What is found in bytes as JSON, by the relations that say what the crate `serde_json` reads.
 pub fn readings_are_found()
@@ -31,4 +33,10 @@ pub fn spellings_are_found()
 /// Each encoding leaves room for the id of a response, and for the answers that a connection gives by itself.
 pub fn encodings_are_fair()
     ensures { (e : Encoding) → IsFair (encoder e) }
+{}
+
+/// A message that no rule refuses as a body is read again from what it is written as: in MessagePack itself, and in JSON
+/// with its data in normal form.
+pub fn written_bodies_are_read()
+    ensures { (e : Encoding) (m : Message) → IsWritable e m → body_in e (body_text e m) ≡ Ok (as_read e m) }
 {}
