@@ -5,3 +5,4 @@ pub mod Sizes
 pub mod Within
 pub mod Norms
 pub mod Again
+mod Worked
