@@ -38,7 +38,7 @@ unread_on c attached (Got place key (Content bytes)) e = rw e (and_false (same_k
     and_false false = refl
 unread_on c attached item e = refl
 
-unjoined : (v : Version) (c : ChannelKey) (items : List EndItem) → was_attached (rpc_of v c items) ≡ false → joined v c items ≡ []
+pub unjoined : (v : Version) (c : ChannelKey) (items : List EndItem) → was_attached (rpc_of v c items) ≡ false → joined v c items ≡ []
 unjoined v c [] e = refl
 unjoined v c (Mux item ∷ items) e =
     let x = rpc_of v c items in

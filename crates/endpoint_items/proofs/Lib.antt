@@ -21,6 +21,8 @@ pub mod Lying
 pub mod AllRead
 pub mod AttachedKeys
 pub mod Empty
+pub mod Writable
+pub mod Exchange
 mod Worked
 mod WorkedEnds
 mod WorkedRefusals

@@ -47,13 +47,13 @@ pub writable_short : (k : Encoder) (ms : List Message) → AreWritable k ms → 
 writable_short k [] w = tt
 writable_short k (m ∷ ms) w = (body_short k (message_value m) w.0, writable_short k ms w.1)
 
-first_writable : (k : Encoder) (ms : List Message) → first_refusal k ms ≡ None → AreWritable k ms
+pub first_writable : (k : Encoder) (ms : List Message) → first_refusal k ms ≡ None → AreWritable k ms
 first_writable k [] e = tt
 first_writable k (m ∷ ms) e =
     let parts = or_else_parts (body_refusal k (message_value m)) (first_refusal k ms) e in
     (parts.0, first_writable k ms parts.1)
 
-said_none : (ended : Option Cause) (state said : Option Refusal) → unless_ended ended (or_else state said) ≡ None → said ≡ None
+pub said_none : (ended : Option Cause) (state said : Option Refusal) → unless_ended ended (or_else state said) ≡ None → said ≡ None
 said_none (Some why) state said e = absurd (cc e)
 said_none None state said e = (or_else_parts state said e).1
 

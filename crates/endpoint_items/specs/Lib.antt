@@ -11,3 +11,4 @@ pub mod Open
 pub mod Rows
 pub mod Spoken
 pub mod Joined
+pub mod Exchange

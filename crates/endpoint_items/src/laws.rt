@@ -3,17 +3,22 @@
 ghost use Rattle.std.specs.Prelude.{◌≡◌, ◌<◌, ◌≤◌, ◌++◌, ◌∷◌, length, List, Bool, ℕ, true, false, Some};
 ghost use Rattle.wire_base.specs.declared.frame.Version.{Version};
 ghost use Rattle.mux_items.specs.declared.channel.ChannelKey.{ChannelKey};
+ghost use Rattle.message_body.specs.AsRead.{AreMessages};
+ghost use Rattle.message_body.specs.Written.{encoder};
 ghost use Rattle.rpc_items.specs.Answered.{AnswersOnce};
+ghost use Rattle.rpc_items.specs.Fitting.{AreWritable};
 ghost use Rattle.rpc_items.specs.Stable.{IsStable, IsReal};
 ghost use Rattle.rpc_items.specs.declared.messages.Message.{Message};
 ghost use Rattle.rpc_end.specs.Arrivals.{Applies};
-ghost use Rattle.endpoint_items.specs.Items.{EndItem};
+ghost use Rattle.rpc_end.specs.Texts.{message_texts};
+ghost use Rattle.endpoint_items.specs.Items.{EndItem, terms_of};
 ghost use Rattle.endpoint_items.specs.Connections.{is_attached, was_attached, items_of};
 ghost use Rattle.endpoint_items.specs.Layers.{mux_of, rpc_of};
 ghost use Rattle.endpoint_items.specs.Bytes.{joined, consumed, rest_of};
 ghost use Rattle.endpoint_items.specs.Calls.{EndCall, called};
 ghost use Rattle.endpoint_items.specs.Arriving.{next_message};
 ghost use Rattle.endpoint_items.specs.Allowed.{Arrives, AreAllowed};
+ghost use Rattle.endpoint_items.specs.Exchange.{said_on, TakesFirst};
 ghost use Rattle.endpoint_items.specs.Joined.{Reads};
 ghost use Rattle.endpoint_items.specs.Open.{IsOpen};
 ghost use Rattle.endpoint_items.specs.Outcomes.{HasGrown, outcome_on};
@@ -69,4 +74,18 @@ pub fn what_is_read_is_joined()
 pub fn messages_lie_in_what_was_read()
     ensures one { (v : Version) (c : ChannelKey) (place size : ℕ) (message : Message) (items : List EndItem) → Arrives v c (Applies place message size) items → (0 < size) × (size ≤ length (rest_of v c items)) }
     ensures all { (v : Version) (c : ChannelKey) (items : List EndItem) → AreAllowed v items → consumed c items ≤ length (joined v c items) }
+{}
+
+/// No rule refuses the body of a message that a connection said.
+pub fn what_is_said_can_be_written()
+    ensures { (v : Version) (c : ChannelKey) (items : List EndItem) → AreAllowed v items → AreWritable (encoder (terms_of c items).encoding) (said_on v c items) }
+{}
+
+/// Where the bytes that a connection read begin the text of some messages, the messages that it took are the first of
+/// these, each as it is read.
+pub fn messages_are_taken_in_order()
+    ensures { (v : Version) (c : ChannelKey) (items : List EndItem) (messages : List Message) (more : List ℕ) →
+        AreAllowed v items → was_attached (rpc_of v c items) ≡ true →
+        AreMessages messages → AreWritable (encoder (terms_of c items).encoding) messages →
+        joined v c items ++ more ≡ message_texts (terms_of c items) messages → TakesFirst v c messages items }
 {}
