@@ -20,4 +20,6 @@ pub mod Emitted
 pub mod Settled
 pub mod Midway
 pub mod Quiet
+pub mod Asked
+pub mod Exchanging
 mod Worked

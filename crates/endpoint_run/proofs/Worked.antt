@@ -1,14 +1,18 @@
 -- Worked values: both ends attach, A asks and B answers across the ends, and the end of the stream loses a reply that it cuts.
 use Rattle.std.specs.Prelude.{ℕ, List, [], ◌∷◌, ◌++◌, true, false, Some, pos}
-use Rattle.std.proofs.Common.{◌≡◌, refl}
+use Rattle.std.proofs.Common.{◌≡◌, refl, sym, ◌∙◌, arith}
 use Rattle.std.specs.Str.{is_utf8, chars}
+use Rattle.std.proofs.lemmas.Int.{ints}
+use Rattle.std.proofs.lemmas.Str.{IsUtf8-from_is_utf8}
 use lib.Utf8.{encode}
 use Rattle.wire_base.specs.declared.frame.Version.TheVariants as version
 use Rattle.wire_base.specs.declared.text.Id.TheVariants.{Number}
+use Rattle.wire_base.specs.Whole.{IsWhole}
 use Rattle.wire_base.specs.Tokens.{head_at, token_at, inner_at, field_at, bytes_at}
 use Rattle.wire_base.specs.Head.{lettered}
 use Rattle.pack_value.specs.Answer as pack
 use Rattle.pack_value.specs.Reading.{run_at, text_at, cut_head, key_at, repeat, pair_at, behind, value_at, items_at, pairs_at}
+use Rattle.message_body.specs.AsRead.{AreMessages}
 use Rattle.message_framing.specs.Front.{front}
 use Rattle.message_framing.specs.Wrapped.{head_text}
 use Rattle.message_framing.specs.declared.framing.Framing.TheVariants as framing
@@ -29,8 +33,11 @@ use Rattle.rpc_items.specs.Items as rpc
 use Rattle.rpc_items.specs.Outcomes.{Known, NotYet}
 use Rattle.rpc_end.specs.declared.terms.Terms.{Terms as Form}
 use Rattle.endpoint_items.specs.Calls.{OfMux, Attaches, OfConnection}
+use Rattle.endpoint_items.specs.Exchange.{said_on}
+use Rattle.endpoint_items.specs.Items.{terms_of}
 use Rattle.endpoint_items.specs.Layers.{rpc_of}
 use Rattle.endpoint_items.specs.Outcomes.{outcome_on}
+use Rattle.endpoint_run.specs.Exchange.{IsShared}
 use Rattle.endpoint_run.specs.Run.{EndStep, Calls, Delivers, Ends, end_run}
 
 -- the channel as A names it, and as B does
@@ -74,15 +81,44 @@ not_yet : outcome_on false version.Three at_a 1 (end_run terms asked).a.items �
 unfolding head_text
 not_yet = refl
 
+-- the two connections share the channel from its first byte, and what A said there is a message of the code
+abbrev request : Message
+request = message.Request (Number (pos 1)) (109 ∷ []) (params.List [])
+
+terms_at_a : terms_of at_a (end_run terms asked).a.items ≡ form
+unfolding head_text
+terms_at_a = refl
+
+terms_at_b : terms_of at_b (end_run terms asked).b.items ≡ form
+terms_at_b = refl
+
+shared : IsShared version.Three at_b (end_run terms asked).b.items (end_run terms asked).a.items
+unfolding head_text
+shared = record { reader = refl; writer = refl; same_terms = terms_at_b ∙ sym terms_at_a; nothing_read = refl; nothing_written = refl }
+
+said : said_on version.Three at_a (end_run terms asked).a.items ≡ request ∷ []
+unfolding head_text
+said = refl
+
+are_messages : AreMessages (request ∷ [])
+unfolding is_utf8 chars encode
+are_messages = (
+  record {
+    sayable = refl;
+    value = (IsUtf8-from_is_utf8 _ refl, IsUtf8-from_is_utf8 _ refl, (IsUtf8-from_is_utf8 _ refl, one, (IsUtf8-from_is_utf8 _ refl, IsUtf8-from_is_utf8 _ refl, (IsUtf8-from_is_utf8 _ refl, tt, tt))));
+  },
+  tt,
+)
+  where
+    one : IsWhole (pos 1)
+    one = (omega (arith, ints), omega (arith, ints))
+
 -- a part of it is no message
 partly : rpc_of version.Three at_b (end_run terms (asked ++ Delivers B 10 ∷ [])).b.items ≡ Some []
 unfolding front head_text
 partly = refl
 
 -- the whole one is, in any pieces
-abbrev request : Message
-request = message.Request (Number (pos 1)) (109 ∷ []) (params.List [])
-
 took : rpc_of version.Three at_b (end_run terms (asked ++ Delivers B 20 ∷ Delivers B 1000 ∷ [])).b.items ≡ Some (rpc.Got 4 request ∷ [])
 unfolding front head_text pack.front head_at token_at inner_at field_at bytes_at lettered run_at text_at cut_head key_at repeat pair_at behind value_at items_at pairs_at is_utf8 chars encode
 took = refl

@@ -6,3 +6,4 @@ pub mod Safe
 pub mod Settled
 pub mod Midway
 pub mod Quiet
+pub mod Exchange

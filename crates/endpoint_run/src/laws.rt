@@ -14,6 +14,7 @@ ghost use Rattle.endpoint_run.specs.Safe.{IsSafeRun, KeepsRulesRun};
 ghost use Rattle.endpoint_run.specs.Settled.{IsSettled, TakesTurnsEnough, IsWithinRun};
 ghost use Rattle.endpoint_run.specs.Quiet.{DeliversAll};
 ghost use Rattle.endpoint_run.specs.Midway.{all_applied, IsMidway, GoesOn, BeginsMidway};
+ghost use Rattle.endpoint_run.specs.Exchange.{IsExchangeRun};
 
 /// At each moment of every run the multiplexing ends are those of a run of finer steps.
 pub fn every_run_is_a_finer_run()
@@ -65,4 +66,11 @@ pub fn items_are_applied_one_by_one()
 /// written on a channel that is live at both was handed over.
 pub fn quiet_runs_deliver_all()
     ensures { (terms : Terms) (steps : List EndStep) → DeliversAll terms steps }
+{}
+
+/// At each moment of every run, on each channel that two connections share from its first byte, in the same terms, the
+/// messages that one side took are the first that the other said, in order and each as it is read, and each request is
+/// answered once at most.
+pub fn every_run_exchanges_messages()
+    ensures { (terms : Terms) (steps : List EndStep) → IsExchangeRun terms steps }
 {}

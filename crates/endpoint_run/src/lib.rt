@@ -4,7 +4,7 @@
 mod laws;
 
 pub use laws::{
-    every_run_applies_what_was_delivered, every_run_is_a_finer_run, every_run_is_safe,
-    every_run_keeps_the_rules, every_step_applies_all_that_is_whole, items_are_applied_one_by_one,
-    items_are_only_added, quiet_runs_deliver_all,
+    every_run_applies_what_was_delivered, every_run_exchanges_messages, every_run_is_a_finer_run,
+    every_run_is_safe, every_run_keeps_the_rules, every_step_applies_all_that_is_whole,
+    items_are_applied_one_by_one, items_are_only_added, quiet_runs_deliver_all,
 };
