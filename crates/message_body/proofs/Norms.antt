@@ -1,13 +1,14 @@
 -- The normal form of a value says the same message, with its data in normal form.
 use Rattle.std.specs.Prelude.{if◌then◌else◌, not, codes, map, Bool, true, false, Result, Ok, Err}
-use Rattle.std.proofs.Common.{◌≡◌, ℕ, List, ◌∷◌, refl, sym, ◌∙◌, ap, Option, Some, None, option_map}
+use Rattle.std.proofs.Common.{◌≡◌, ℕ, List, [], ◌∷◌, refl, sym, ◌∙◌, ap, ap₂, Option, Some, None, option_map}
 use Rattle.wire_base.specs.Find.{last_of}
-use Rattle.wire_base.specs.Tree.{Tree, nil, flag, whole, words, bytes, items, pairs, Trees, no_items, item, Pairs, no_pairs, list_of, pair_list_of}
+use Rattle.wire_base.specs.Tree.{Tree, nil, flag, whole, words, bytes, items, pairs, Trees, no_items, item, Pairs, no_pairs, list_of, pairs_of, pair_list_of}
 use Rattle.wire_base.specs.declared.reason.Reason.{Reason}
 use Rattle.wire_base.specs.declared.reason.Reason.TheVariants as reason
 use Rattle.wire_base.specs.declared.text.Id.{Id}
 use Rattle.json_value.specs.Normal.{norm, norm_items, norm_onto}
 use Rattle.json_value.proofs.LastLemmas.{last_of-norm}
+use Rattle.json_value.proofs.NormLemmas.{norm-norm}
 use Rattle.pack_value.proofs.Lists.{pairs_of-list_of}
 use Rattle.rpc_items.specs.declared.messages.Params.{Params}
 use Rattle.rpc_items.specs.declared.messages.Params.TheVariants.{Named}
@@ -17,7 +18,9 @@ use Rattle.rpc_items.specs.declared.messages.Message.TheVariants as message
 use Rattle.rpc_items.specs.Ids.{is_id_number, id_in}
 use Rattle.rpc_items.specs.Reading.{is_version, unless_nil, id_or_bad, optional_id, params_in, call_with, call_in, result_with, required_id, error_with, response_with, by_method, message_in}
 use Rattle.rpc_items.specs.Values.{member}
-use Rattle.message_body.specs.AsRead.{norm_members, norm_params, norm_message}
+use Rattle.message_body.specs.declared.encoding.Encoding.{Encoding}
+use Rattle.message_body.specs.declared.encoding.Encoding.TheVariants.{Json, Pack}
+use Rattle.message_body.specs.AsRead.{norm_members, norm_params, norm_message, as_read}
 
 -- ---- lists and members
 
@@ -179,3 +182,33 @@ message_in-norm (pairs ps) = message_with-norm (λ key. member key (norm (pairs 
 
 pub norm_says : (t : Tree) (m : Message) → message_in t ≡ Ok m → message_in (norm t) ≡ Ok (norm_message m)
 norm_says t m e = message_in-norm t ∙ ap normed e
+
+-- ---- once more
+
+abbrev members_in : Tree → List (List ℕ × Tree)
+members_in (pairs ps) = pair_list_of ps
+members_in t = []
+
+norm_members-again : (ps : List (List ℕ × Tree)) → norm_members (norm_members ps) ≡ norm_members ps
+norm_members-again ps =
+    ap (λ qs. pair_list_of (norm_onto no_pairs qs)) (pairs_of-list_of (norm_onto no_pairs (pairs_of ps))) ∙ ap members_in (norm-norm (pairs (pairs_of ps)))
+
+map_norm-again : (values : List Tree) → map norm (map norm values) ≡ map norm values
+map_norm-again [] = refl
+map_norm-again (value ∷ values) = ap₂ (λ t ts. t ∷ ts) (norm-norm value) (map_norm-again values)
+
+norm_params-again : (given : Params) → norm_params (norm_params given) ≡ norm_params given
+norm_params-again params.Absent = refl
+norm_params-again (params.List values) = ap params.List (map_norm-again values)
+norm_params-again (Named ps) = ap Named (norm_members-again ps)
+
+norm_message-again : (m : Message) → norm_message (norm_message m) ≡ norm_message m
+norm_message-again (message.Request id method given) = ap (message.Request id method) (norm_params-again given)
+norm_message-again (message.Notification method given) = ap (message.Notification method) (norm_params-again given)
+norm_message-again (message.Result id value) = ap (message.Result id) (norm-norm value)
+norm_message-again (message.Error id code text (Some more)) = ap (λ t. message.Error id code text (Some t)) (norm-norm more)
+norm_message-again (message.Error id code text None) = refl
+
+pub as_read-again : (e : Encoding) (m : Message) → as_read e (as_read e m) ≡ as_read e m
+as_read-again Json m = norm_message-again m
+as_read-again Pack m = refl

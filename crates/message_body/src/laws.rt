@@ -36,7 +36,8 @@ pub fn encodings_are_fair()
 {}
 
 /// A message that no rule refuses as a body is read again from what it is written as: in MessagePack itself, and in JSON
-/// with its data in normal form.
+/// with its data in normal form, which stays the same when it is read once more.
 pub fn written_bodies_are_read()
-    ensures { (e : Encoding) (m : Message) → IsWritable e m → body_in e (body_text e m) ≡ Ok (as_read e m) }
+    ensures read { (e : Encoding) (m : Message) → IsWritable e m → body_in e (body_text e m) ≡ Ok (as_read e m) }
+    ensures again { (e : Encoding) (m : Message) → as_read e (as_read e m) ≡ as_read e m }
 {}
