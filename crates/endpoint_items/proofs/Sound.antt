@@ -52,7 +52,7 @@ sound_if : (k : Encoder) (b : Bool) (x y : Connection) → (b ≡ true → IsSou
 sound_if k true x y h s = h refl
 sound_if k false x y h s = s
 
-abbrev encoder_on : ChannelKey → List EndItem → Encoder
+abbrev pub encoder_on : ChannelKey → List EndItem → Encoder
 encoder_on c items = encoder (terms_of c items).encoding
 
 pub sound : (v : Version) (c : ChannelKey) (items : List EndItem) → AreAllowed v items → IsSound (encoder_on c items) (rpc_of v c items)

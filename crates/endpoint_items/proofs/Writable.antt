@@ -44,7 +44,7 @@ use Rattle.endpoint_items.proofs.Attaching.{attachable}
 use Rattle.endpoint_items.proofs.Arriving.{accepted, arrived}
 use Rattle.endpoint_items.proofs.Said.{ended_said, began_said}
 use Rattle.endpoint_items.proofs.Short.{first_writable, said_none}
-use Rattle.endpoint_items.proofs.Sound.{sound}
+use Rattle.endpoint_items.proofs.Sound.{encoder_on, sound}
 
 -- a response with a sequence holds bytes where its values do
 
@@ -119,9 +119,6 @@ written_with k item None more w = w
 written_if : (k : Encoder) (b : Bool) (x y : Connection) → (b ≡ true → IsWritten k y) → IsWritten k x → IsWritten k (if b then y else x)
 written_if k true x y h w = h refl
 written_if k false x y h w = w
-
-abbrev encoder_on : ChannelKey → List EndItem → Encoder
-encoder_on c items = encoder (terms_of c items).encoding
 
 pub said_writable : (v : Version) (c : ChannelKey) (items : List EndItem) → AreAllowed v items → AreWritable (encoder_on c items) (said_on v c items)
 said_writable v c [] a = tt
