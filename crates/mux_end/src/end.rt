@@ -129,8 +129,26 @@ impl MuxEnd {
         ensures stopped { self.old.state ≡ EndState.Stopped → self.new ≡ self.old }
         ensures terms { KeepsTerms self.old self.new }
     {
+        self.end_running(Cause::InputEnded);
+    }
+
+    /// A running end takes no more bytes and calls, as where it was fed the most that it may be. It takes no memory.
+    pub fn spend(&mut self)
+        ensures answers { (items : List Item) (at : ℕ) (rest : List ℕ) → MuxStands self.old items at rest → EndsBy self.old self.new items at rest Cause.Spent (ended items) }
+        ensures stopped { self.old.state ≡ EndState.Stopped → self.new ≡ self.old }
+        ensures terms { KeepsTerms self.old self.new }
+    {
+        self.end_running(Cause::Spent);
+    }
+
+    /// Ends an end that runs.
+    fn end_running(&mut self, cause: Cause)
+        ensures answers { (items : List Item) (at : ℕ) (rest : List ℕ) → MuxStands self.old items at rest → EndsBy self.old self.new items at rest cause (ended items) }
+        ensures stopped { self.old.state ≡ EndState.Stopped → self.new ≡ self.old }
+        ensures terms { KeepsTerms self.old self.new }
+    {
         if self.is_running() {
-            self.end(Cause::InputEnded);
+            self.end(cause);
         }
     }
 
