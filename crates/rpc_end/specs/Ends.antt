@@ -43,6 +43,12 @@ with_end cause end = record end { table = over Lost end.table; state = state.End
 abbrev pub with_stop : RpcValue → RpcValue
 with_stop end = record end { table = over Starved end.table; state = state.Stopped }
 
+-- a running end becomes another; one that doesn't run stays as it is
+abbrev pub if_running : EndState → (now end : RpcValue) → RpcValue
+if_running state.Running now end = now
+if_running (state.Ended cause) now end = end
+if_running state.Stopped now end = end
+
 -- a call of a running end is refused before what it would say is written, or because of that, and then changes nothing;
 -- else it makes this of the end, and answers so. Want of memory comes only after the earlier refusals
 abbrev pub Makes : {A : Type 0} → (old new : RpcValue) → (early late : Option Refusal) → (now : RpcValue) → A → Result A CallFault → Type 0

@@ -125,7 +125,7 @@ impl RpcEnd {
         match self.read_body(start, size) {
             Ok(message) => self.apply(message, start, size),
             Err(BodyFault::Refused(offset, reason)) => self.refuse(start + offset, reason),
-            Err(BodyFault::OutOfMemory) => self.starve(),
+            Err(BodyFault::OutOfMemory) => self.starved(),
         }
     }
 
@@ -156,7 +156,7 @@ impl RpcEnd {
                 self.reader.skip(start, size);
                 RpcStep::Event(event)
             }
-            Err(_) => self.starve(),
+            Err(_) => self.starved(),
         }
     }
 
@@ -181,7 +181,7 @@ impl RpcEnd {
     }
 
     /// Memory ran out in a step.
-    fn starve(&mut self) -> RpcStep
+    fn starved(&mut self) -> RpcStep
         ensures answer { result ≡ RpcStep.OutOfMemory }
         ensures stop { self.new ≡ with_stop self.old }
     {

@@ -1,7 +1,7 @@
 //! One end of a connection.
 
 ghost use Rattle.call_table.specs.Table.{shown};
-ghost use Rattle.rpc_end.specs.Ends.{with_end, with_output, with_stop};
+ghost use Rattle.rpc_end.specs.Ends.{if_running, with_end, with_output, with_stop};
 ghost use Rattle.rpc_end.specs.Replies.{EndsBy, IsBegun};
 ghost use Rattle.rpc_end.specs.Stands.{RpcStands};
 ghost use Rattle.rpc_items.specs.Drawn.{drawn};
@@ -97,11 +97,19 @@ impl RpcEnd {
     /// Ends a running connection: requests without a response are lost. It takes no memory.
     pub fn end(&mut self, cause: Cause)
         ensures answers { (items : List RpcItem) (at : ℕ) (rest : List ℕ) → RpcStands self.old items at rest → EndsBy self.old self.new items at rest cause (ended items) }
-        ensures stopped { self.old.state ≡ EndState.Stopped → self.new ≡ self.old }
-        ensures terms { self.new.terms ≡ self.old.terms }
+        ensures value { self.new ≡ if_running self.old.state (with_end cause self.old) self.old }
     {
         if let EndState::Running = self.state {
             self.close(cause);
+        }
+    }
+
+    /// A running connection stops, as it does where memory runs out: requests without a response are starved. It takes no memory.
+    pub fn starve(&mut self)
+        ensures { self.new ≡ if_running self.old.state (with_stop self.old) self.old }
+    {
+        if let EndState::Running = self.state {
+            self.stop();
         }
     }
 
