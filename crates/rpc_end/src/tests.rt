@@ -1,6 +1,12 @@
-//! What happens at one end of a connection: rows of bodies with what each is to the end, and calls between two ends.
+//! What an end answers and says, and what a message is to it, as tables.
 
+mod answers;
+mod calls;
 mod ending;
+mod exchanges;
+mod heeding;
+mod messages;
+mod pieces;
+mod refusing;
 mod rows;
-mod stepping;
-mod traffic;
+mod values;

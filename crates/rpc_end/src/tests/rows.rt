@@ -1,139 +1,193 @@
 //! Rows of text, and the end that lives through them.
 
-use crate::{
-    Arguments, Encoding, Expect, Framing, Look, Outcome, Params, RpcEnd, RpcEvent, RpcStep,
-};
+use super::answers::{of_call, of_drawn, of_look, of_state, of_step, word};
+use super::values::{call_of, id_of, number, value};
+use crate::{Answer, Encoding, Expect, Framing, RpcEnd};
 use std::alloc::Global;
 use std::process::Abort;
 use std::test::Fail;
-use wire_base::{Cause, EndState, Id, Node, Text};
+use wire_base::{Cause, Text};
 
-/// An end that writes and reads JSON behind four-byte lengths.
-pub fn start(alloc: Global) -> RpcEnd {
-    RpcEnd::new(alloc, Framing::Length, Encoding::Json)
+pub fn start(alloc: Global, framing: Framing, encoding: Encoding) -> RpcEnd {
+    RpcEnd::new(alloc, framing, encoding)
 }
 
-/// The end says its next request, which is sent.
-pub fn asks(alloc: Global, end: &mut RpcEnd) -> Result<bool, Fail> {
-    let method = Text::from_str(alloc, "work")?;
-    let asked = end
-        .request(&method, Arguments::Absent, Expect::Plain)
-        .is_ok();
-    sent(alloc, end)?;
-    Ok(asked)
+/// The head of a body of so many bytes.
+fn head(alloc: Global, framing: Framing, count: usize) -> Result<Vec<u8>, Fail> {
+    match framing {
+        Framing::Header => {
+            Ok(format!(in alloc; "Content-Length: {count}\r\n\r\n")?.into_bytes())
+        }
+        Framing::Length => {
+            let count = u32::try_from(count).unwrap_or(0);
+            Ok(Vec::from_slice(alloc, &count.to_be_bytes())?)
+        }
+    }
 }
 
-/// A body behind its four-byte length.
-pub fn framed(alloc: Global, body: &str) -> Result<Vec<u8>, Fail> {
-    let length = u32::try_from(body.len()).unwrap_or(0);
-    let mut bytes = Vec::new(alloc);
-    bytes.extend_from_slice(&length.to_be_bytes())?;
+fn framed_one(alloc: Global, framing: Framing, body: &str) -> Result<Vec<u8>, Fail> {
+    let mut bytes = head(alloc, framing, body.len())?;
     bytes.extend_from_slice(body.as_bytes())?;
     Ok(bytes)
 }
 
-pub fn feed(end: &mut RpcEnd, bytes: &[u8]) -> Option<EndState> {
-    end.feed(bytes).ok()
-}
-
-fn id_word(alloc: Global, id: &Id) -> Result<String, Fail> {
-    match id {
-        Id::Number(n) => Ok(format!(in alloc; "{n}")?),
-        Id::Name(name) => Ok(format!(in alloc; "{}", name.as_str())?),
-    }
-}
-
-fn params_word(params: &Params) -> (&'static str, usize) {
-    match params {
-        Params::Absent => ("absent", 0),
-        Params::List(values) => ("list", values.len()),
-        Params::Named(pairs) => ("named", pairs.len()),
-    }
-}
-
-fn event_word(alloc: Global, event: &RpcEvent) -> Result<String, Fail> {
-    match event {
-        RpcEvent::Asked(id, _, method, params) => {
-            let id = id_word(alloc, id)?;
-            let (kind, count) = params_word(params);
-            Ok(format!(in alloc; "asked {id} {} {kind} {count}", method.as_str())?)
+/// The bodies between `+` signs, each behind its head.
+pub fn framed(alloc: Global, framing: Framing, bodies: &str) -> Result<Vec<u8>, Fail> {
+    let mut bytes = Vec::new(alloc);
+    for body in bodies.split('+') {
+        let body = body.trim();
+        if !body.is_empty() {
+            bytes.append(&mut framed_one(alloc, framing, body)?)?;
         }
-        RpcEvent::Told(method, params) => {
-            let (kind, count) = params_word(params);
-            Ok(format!(in alloc; "told {} {kind} {count}", method.as_str())?)
-        }
-        RpcEvent::Cancelled(id) => {
-            let id = id_word(alloc, id)?;
-            Ok(format!(in alloc; "cancelled {id}")?)
-        }
-        RpcEvent::Answered(n) => Ok(format!(in alloc; "answered {n}")?),
-        RpcEvent::Reported(n) => Ok(format!(in alloc; "reported {n}")?),
-        RpcEvent::Released(key) => Ok(format!(in alloc; "released {}", key.number)?),
-        RpcEvent::Handled(method) => Ok(format!(in alloc; "handled {}", method.as_str())?),
-        RpcEvent::Stray => Ok(String::from_str(alloc, "stray")?),
     }
-}
-
-fn cause_word(alloc: Global, cause: Cause) -> Result<String, Fail> {
-    match cause {
-        Cause::Refused(place, reason) => {
-            Ok(format!(in alloc; "refused {} at {}", reason.number(), place.0)?)
-        }
-        cause => Ok(format!(in alloc; "{cause:?}")?),
-    }
-}
-
-fn word(alloc: Global, step: &RpcStep) -> Result<String, Fail> {
-    match step {
-        RpcStep::Event(event) => event_word(alloc, event),
-        RpcStep::Ended(cause) => cause_word(alloc, *cause),
-        step => Ok(format!(in alloc; "{step:?}")?),
-    }
-}
-
-/// What a step answers.
-pub fn steps(alloc: Global, end: &mut RpcEnd) -> Result<String, Fail> {
-    word(alloc, &end.step())
-}
-
-/// What is told of a request: the number that it was answered, or else a word.
-pub fn told(end: &RpcEnd, n: u64) -> &'static str {
-    match end.outcome(n) {
-        Look::Known(Outcome::Replied(value)) => match &value.node {
-            Node::Whole(number) if number.get() == 5 => "5",
-            _ => "another value",
-        },
-        Look::Known(Outcome::Failed(_, _, _)) => "failed",
-        Look::Known(Outcome::Lost) => "lost",
-        Look::Known(Outcome::Starved) => "starved",
-        Look::NotYet => "not yet",
-        Look::NoRequest => "no request",
-    }
-}
-
-/// The bytes that this end has to send, which are sent then.
-pub fn sent(alloc: Global, end: &mut RpcEnd) -> Result<Vec<u8>, Fail> {
-    let bytes = end.pending_output().to_vec(alloc)?;
-    end.took(bytes.len());
     Ok(bytes)
 }
 
-/// Each row is a body of the peer, what it is to this end, and the body that is sent then, if one is.
-pub fn lives(
-    rt: &impl Abort,
-    alloc: Global,
-    end: &mut RpcEnd,
-    rows: &[(&str, &str, &str)],
-) -> Result<(), Fail> {
-    for (body, event, said) in rows {
-        feed(end, framed(alloc, body)?.as_slice());
-        assert_eq!(rt; steps(alloc, end)?.as_str(), *event, "at {body}");
-        let wanted = if said.is_empty() {
-            Vec::new(alloc)
-        } else {
-            framed(alloc, said)?
-        };
-        assert_eq!(rt; sent(alloc, end)?, wanted, "at {body}");
+fn asks(alloc: Global, end: &mut RpcEnd, words: &str) -> Result<String, Fail> {
+    let (method, args) = call_of(alloc, words)?;
+    of_drawn(alloc, end.request(&method, args, Expect::Plain))
+}
+
+fn tells(alloc: Global, end: &mut RpcEnd, words: &str) -> Result<String, Fail> {
+    let (method, args) = call_of(alloc, words)?;
+    of_call(alloc, end.notify(&method, args))
+}
+
+fn answers(alloc: Global, end: &mut RpcEnd, words: &str) -> Result<String, Fail> {
+    let (id, word) = words.split_once(' ').unwrap_or((words, ""));
+    let value = value(alloc, word)?;
+    of_call(alloc, end.respond(&id_of(alloc, id)?, Answer::Value(value)))
+}
+
+fn fails(alloc: Global, end: &mut RpcEnd, words: &str) -> Result<String, Fail> {
+    let (id, code) = words.split_once(' ').unwrap_or((words, ""));
+    let text = Text::from_str(alloc, "no")?;
+    let answer = Answer::Fault(number(code), text, None);
+    of_call(alloc, end.respond(&id_of(alloc, id)?, answer))
+}
+
+fn forgets(alloc: Global, end: &mut RpcEnd, n: u64) -> Result<String, Fail> {
+    of_call(alloc, end.forget(n))
+}
+
+pub fn feeds(alloc: Global, end: &mut RpcEnd, bytes: &[u8]) -> Result<String, Fail> {
+    match end.feed(bytes) {
+        Ok(state) => of_state(alloc, state),
+        Err(_) => word(alloc, "OutOfMemory"),
+    }
+}
+
+pub fn steps(alloc: Global, end: &mut RpcEnd) -> Result<String, Fail> {
+    of_step(alloc, &end.step())
+}
+
+/// Bytes come, and the end takes one step.
+pub fn comes(alloc: Global, end: &mut RpcEnd, bytes: &[u8]) -> Result<String, Fail> {
+    feeds(alloc, end, bytes)?;
+    steps(alloc, end)
+}
+
+fn ends(end: &mut RpcEnd) {
+    end.end(Cause::InputEnded);
+}
+
+fn stops(end: &mut RpcEnd) {
+    end.stop();
+}
+
+pub fn outcome(alloc: Global, end: &RpcEnd, n: u64) -> Result<String, Fail> {
+    of_look(alloc, end.outcome(n))
+}
+
+fn last(alloc: Global, end: &RpcEnd) -> Result<String, Fail> {
+    Ok(format!(in alloc; "{}", end.last_request())?)
+}
+
+fn has_message(alloc: Global, end: &RpcEnd) -> Result<String, Fail> {
+    Ok(format!(in alloc; "{:?}", end.has_message())?)
+}
+
+/// What is seen of the end.
+fn looks(alloc: Global, end: &RpcEnd, name: &str, words: &str) -> Result<String, Fail> {
+    match name {
+        "outcome" => outcome(alloc, end, number(words).unsigned_abs()),
+        "last" => last(alloc, end),
+        "has-message" => has_message(alloc, end),
+        "state" => of_state(alloc, end.state()),
+        _ => word(alloc, "no such call"),
+    }
+}
+
+/// What arrives at the end, or befalls it.
+fn befalls(alloc: Global, end: &mut RpcEnd, name: &str, words: &str) -> Result<String, Fail> {
+    let framing = end.terms.framing;
+    match name {
+        "feeds" => feeds(alloc, end, &framed(alloc, framing, words)?),
+        "comes" => comes(alloc, end, &framed(alloc, framing, words)?),
+        "steps" => steps(alloc, end),
+        "ends" => {
+            ends(end);
+            word(alloc, "ok")
+        }
+        "stops" => {
+            stops(end);
+            word(alloc, "ok")
+        }
+        _ => looks(alloc, end, name, words),
+    }
+}
+
+/// What this call answers.
+pub fn happens(alloc: Global, end: &mut RpcEnd, call: &str) -> Result<String, Fail> {
+    let (name, words) = call.split_once(' ').unwrap_or((call, ""));
+    let words = words.trim();
+    match name {
+        "asks" => asks(alloc, end, words),
+        "tells" => tells(alloc, end, words),
+        "answers" => answers(alloc, end, words),
+        "fails" => fails(alloc, end, words),
+        "forgets" => forgets(alloc, end, number(words).unsigned_abs()),
+        _ => befalls(alloc, end, name, words),
+    }
+}
+
+/// All output, which is then taken from the end.
+pub fn sent(alloc: Global, end: &mut RpcEnd) -> Result<Vec<u8>, Fail> {
+    let output = Vec::from_slice(alloc, end.pending_output())?;
+    end.took(output.len());
+    Ok(output)
+}
+
+pub fn is_told(rt: &impl Abort, told: &str, wanted: &str) {
+    assert_eq!(rt; told, wanted);
+}
+
+/// A row is a call, its answer, and the bodies that are sent then, between bars.
+fn lives_once(rt: &impl Abort, alloc: Global, end: &mut RpcEnd, row: &str) -> Result<(), Fail> {
+    let (call, wanted) = row.split_once('|').unwrap_or((row, ""));
+    let (wanted, bodies) = wanted.split_once('|').unwrap_or((wanted, ""));
+    let answer = happens(alloc, end, call.trim())?;
+    assert_eq!(rt; answer.as_str(), wanted.trim(), "at {row}");
+    let bodies = framed(alloc, end.terms.framing, bodies)?;
+    assert_eq!(rt; sent(alloc, end)?, bodies, "at {row}");
+    Ok(())
+}
+
+pub fn lives(rt: &impl Abort, alloc: Global, end: &mut RpcEnd, rows: &str) -> Result<(), Fail> {
+    for row in rows.lines() {
+        if !row.trim().is_empty() {
+            lives_once(rt, alloc, end, row)?;
+        }
     }
     Ok(())
+}
+
+/// An end that writes and reads JSON lives through the rows.
+pub fn a_life_in(rt: &impl Abort, alloc: Global, framing: Framing, rows: &str) -> Result<(), Fail> {
+    lives(rt, alloc, &mut start(alloc, framing, Encoding::Json), rows)
+}
+
+/// The heads of the bodies are four-byte lengths.
+pub fn a_life(rt: &impl Abort, alloc: Global, rows: &str) -> Result<(), Fail> {
+    a_life_in(rt, alloc, Framing::Length, rows)
 }
