@@ -3,10 +3,11 @@ use Rattle.std.proofs.Common.{◌≡◌, ℕ, zero, suc, ◌+◌, ◌<◌, ◌==
 use Rattle.std.specs.List.{position, position_or_len}
 use Rattle.std.proofs.lemmas.List.Quantifiers.{position-Some}
 use Rattle.std.proofs.lemmas.List.Sums.{fails_before_first}
+use Rattle.text_words.specs.Bytes.{line_feed_byte}
 use Rattle.script.specs.Lines.{lines_of}
 
 abbrev is_line_end : ℕ → Bool
-is_line_end b = b == 10
+is_line_end b = b == line_feed_byte
 
 lines_at : (bs : List ℕ) (k : ℕ) → k < length bs → is_line_end (get_or bs k 0) ≡ true → ((j : ℕ) → j < k → is_line_end (get_or bs j 0) ≡ false)
     → lines_of bs ≡ record { text = take k bs; has_end = true } ∷ lines_of (drop (suc k) bs)

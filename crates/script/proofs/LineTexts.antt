@@ -5,7 +5,8 @@ use Rattle.std.specs.List.{list_all, flat_map}
 use Rattle.std.specs.Str.{is_utf8}
 use Rattle.std.proofs.lemmas.Bool.{and_parts}
 use Rattle.script.specs.Spelling.{ended}
-use Rattle.text_words.specs.Written.{stands_in_line, is_line_text}
+use Rattle.text_words.specs.Bytes.{line_feed_byte}
+use Rattle.text_words.specs.Written.{line_feed, stands_in_line, is_line_text}
 use Rattle.script.specs.Lines.{TextLine, lines_of, onto_line, whole_line}
 use Rattle.text_words.proofs.ByteTests.{tested}
 
@@ -18,11 +19,11 @@ pub lines_of-front : (text rest : List ℕ) → list_all stands_in_line text ≡
 lines_of-front [] rest h = refl
 lines_of-front (b ∷ text) rest h =
     let p = and_parts (stands_in_line b) (list_all stands_in_line text) h in
-    rw (not_false (eqb b 10) p.0, lines_of-front text rest p.1) refl
+    rw (not_false (eqb b line_feed_byte) p.0, lines_of-front text rest p.1) refl
 
 -- the bytes of a line
 abbrev line_bytes : TextLine → List ℕ
-line_bytes line = if line.has_end then line.text ++ 10 ∷ [] else line.text
+line_bytes line = if line.has_end then line.text ++ line_feed else line.text
 
 onto_bytes : (b : ℕ) (lines : List TextLine) → flat_map line_bytes (onto_line b lines) ≡ b ∷ flat_map line_bytes lines
 onto_bytes b [] = refl
@@ -35,8 +36,8 @@ onto_bytes b (line ∷ lines) = by_end line.has_end line.text lines
 -- a text is the bytes of its lines
 flat_map-lines_of : (bytes : List ℕ) → flat_map line_bytes (lines_of bytes) ≡ bytes
 flat_map-lines_of [] = refl
-flat_map-lines_of (b ∷ bytes) = elim (tested (eqb b 10)) [
-  | inl e ↦ rw (e, eqb-true b 10 e) (ap (λ bs. 10 ∷ bs) (flat_map-lines_of bytes))
+flat_map-lines_of (b ∷ bytes) = elim (tested (eqb b line_feed_byte)) [
+  | inl e ↦ rw (e, eqb-true b line_feed_byte e) (ap (λ bs. line_feed_byte ∷ bs) (flat_map-lines_of bytes))
   | inr e ↦ rw e (onto_bytes b (lines_of bytes) ∙ ap (λ bs. b ∷ bs) (flat_map-lines_of bytes))
 ]
 
@@ -44,13 +45,13 @@ flat_map-lines_of (b ∷ bytes) = elim (tested (eqb b 10)) [
 abbrev pub lacks_feed : TextLine → Bool
 lacks_feed line = list_all stands_in_line line.text
 
-onto_lacks : (b : ℕ) (lines : List TextLine) → eqb b 10 ≡ false → list_all lacks_feed lines ≡ true → list_all lacks_feed (onto_line b lines) ≡ true
+onto_lacks : (b : ℕ) (lines : List TextLine) → eqb b line_feed_byte ≡ false → list_all lacks_feed lines ≡ true → list_all lacks_feed (onto_line b lines) ≡ true
 onto_lacks b [] e h = rw e refl
 onto_lacks b (line ∷ lines) e h = rw e h
 
 pub lines_of-lack : (bytes : List ℕ) → list_all lacks_feed (lines_of bytes) ≡ true
 lines_of-lack [] = refl
-lines_of-lack (b ∷ bytes) = elim (tested (eqb b 10)) [
+lines_of-lack (b ∷ bytes) = elim (tested (eqb b line_feed_byte)) [
   | inl e ↦ rw e (lines_of-lack bytes)
   | inr e ↦ rw e (onto_lacks b (lines_of bytes) e (lines_of-lack bytes))
 ]

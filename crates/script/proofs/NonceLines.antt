@@ -6,8 +6,9 @@ use Rattle.std.specs.Str.{bytes_eq}
 use Rattle.std.proofs.lemmas.Bool.{and_parts}
 use Rattle.std.proofs.lemmas.List.Splits.{join_with_byte-slice_split}
 use Rattle.mux_run.specs.declared.steps.Side.{Side}
+use Rattle.text_words.specs.Bytes.{space}
 use Rattle.text_words.specs.Reading.{nonce_in, words_of}
-use Rattle.text_words.specs.Written.{side_word, bytes_word, is_byte, is_nonce, is_text_word}
+use Rattle.text_words.specs.Written.{side_word, bytes_word, is_byte, nonce_size, is_nonce, is_text_word}
 use Rattle.text_words.proofs.ByteTests.{bytes_eq-same, same_from_bytes_eq}
 use Rattle.text_words.proofs.Joined.{joined-words}
 use Rattle.text_words.proofs.Texts.{visible_word, text_side, text_bytes}
@@ -19,7 +20,7 @@ use Rattle.script.specs.Steps.{nonce_of, nonce_line_in}
 
 pub nonce_words-texts : (side : Side) (nonce : List ℕ) → is_nonce nonce ≡ true → list_all is_text_word (nonce_words side nonce) ≡ true
 nonce_words-texts side nonce h =
-    let p = and_parts (length nonce == 16) (list_all is_byte nonce) h in
+    let p = and_parts (length nonce == nonce_size) (list_all is_byte nonce) h in
     rw (visible_word (codes "nonce") refl, text_side side, text_bytes nonce p.1) refl
 
 same_word : (word : List ℕ) → bytes_eq word word ≡ true
@@ -61,7 +62,7 @@ pub nonce_line_in-ok : (side : Side) (text nonce : List ℕ) → nonce_line_in s
 unfolding nonce_line_in
 nonce_line_in-ok side text nonce h =
     let read = nonce_of-some side (words_of text) nonce (good (nonce_of side (words_of text)) nonce h) in
-    (sym (join_with_byte-slice_split 32 text) ∙ ap (join_with_byte 32) read.0, read.1)
+    (sym (join_with_byte-slice_split space text) ∙ ap (join_with_byte space) read.0, read.1)
 
 bad : (o : Option (List ℕ)) (fault : ScriptReason) → ok_or o reason.BadHead ≡ Err fault → fault ≡ reason.BadHead
 bad (Some x) fault h = cc h

@@ -6,6 +6,7 @@ use Rattle.std.proofs.lemmas.Bool.{and_parts}
 use Rattle.std.proofs.lemmas.Bool.Decides.{nat_tests}
 use Rattle.std.proofs.lemmas.List.Splits.{join_with_byte-slice_split}
 use Rattle.std.proofs.lemmas.Str.{IsUtf8-from_is_utf8}
+use Rattle.text_words.specs.Bytes.{space}
 use Rattle.text_words.specs.Reading.{words_of}
 use Rattle.text_words.specs.Written.{is_line_text, stands_in_line}
 use Rattle.text_words.proofs.ByteTests.{and_true}
@@ -37,7 +38,7 @@ step_in-line line h = ap step_in (line_text-words line h) ∙ step_in-words line
 
 -- a line with these words
 pub line_of_words : (text : List ℕ) (line : StepLine) → words_of text ≡ line_words line → line_text line ≡ text
-line_of_words text line e = sym (sym (join_with_byte-slice_split 32 text) ∙ ap (join_with_byte 32) e)
+line_of_words text line e = sym (sym (join_with_byte-slice_split space text) ∙ ap (join_with_byte space) e)
 
 filling-ok : (filled : ℕ) (l : LineStep) → filled + l.filled ≤ most_filled → filling filled l ≡ Ok l
 unfolding filling
@@ -114,7 +115,7 @@ step_after-ok steps filled line l lacks h =
     record {
       spelled = read.line;
       end = w.end;
-      text = w.same ∙ (sym (join_with_byte-slice_split 32 t.0) ∙ ap (join_with_byte 32) read.is);
+      text = w.same ∙ (sym (join_with_byte-slice_split space t.0) ∙ ap (join_with_byte space) read.is);
       spellable = read.spellable;
       means = read.means ∙ same;
       few = below steps room.0;

@@ -7,7 +7,8 @@ use Rattle.mux_run.specs.declared.steps.Side.{Side}
 use Rattle.mux_run.specs.declared.steps.Side.TheVariants.{A, B}
 use Rattle.mux_run.specs.declared.steps.Step.{Step}
 use Rattle.mux_run.specs.Run.{Terms}
-use Rattle.text_words.specs.Written.{side_word, bytes_word, line_feed, is_nonce}
+use Rattle.text_words.specs.Bytes.{space}
+use Rattle.text_words.specs.Written.{side_word, bytes_word, line_feed, is_nonce, nonce_size}
 use Rattle.text_words.specs.Forms.{FormValues, write_forms, are_values}
 use Rattle.script.specs.declared.step_word.StepWord.{StepWord}
 use Rattle.script.specs.Limits.{most_steps, most_filled}
@@ -32,7 +33,7 @@ line_words line = word_text line.word ∷ write_forms (forms_of line.word) line.
 
 -- those words, joined by single spaces
 abbrev pub line_text : StepLine → List ℕ
-line_text line = join_with_byte 32 (line_words line)
+line_text line = join_with_byte space (line_words line)
 
 -- a line and the line feed that ends it
 abbrev pub ended : List ℕ → List ℕ
@@ -56,7 +57,7 @@ nonce_words side nonce = codes "nonce" ∷ side_word side ∷ bytes_word nonce �
 
 -- those words, joined by single spaces
 abbrev pub nonce_line : Side → List ℕ → List ℕ
-nonce_line side nonce = join_with_byte 32 (nonce_words side nonce)
+nonce_line side nonce = join_with_byte space (nonce_words side nonce)
 
 -- the lines of the nonces, A's before B's, where the version has any
 abbrev pub nonce_lines : Terms → List (List ℕ)
@@ -89,9 +90,9 @@ filled_in (line ∷ lines) = filled_by line + filled_in lines
 
 -- what stands for the nonce of a side that has none
 abbrev pub no_nonce : List ℕ
-no_nonce = replicate 16 0
+no_nonce = replicate nonce_size 0
 
--- each nonce has 16 bytes; in version 3, which has none, they are zeros
+-- both are nonces; in version 3, which has none, they are zeros
 pub record AreTerms (terms : Terms) : Type 0 where
   pub a : is_nonce terms.nonce_a ≡ true
   pub b : is_nonce terms.nonce_b ≡ true

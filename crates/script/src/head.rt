@@ -11,6 +11,7 @@ use crate::lines::{Line, text};
 use crate::reason::ScriptReason;
 use mux_run::Side;
 use std::alloc::Global;
+use text_words::NONCE_SIZE;
 use wire_base::{OutOfMemory, Version};
 
 const BAD_HEAD: LineFault = LineFault::Refused(ScriptReason::BadHead);
@@ -41,7 +42,7 @@ pub fn version(line: &Line) -> Result<Version, LineFault>
 
 /// The nonce of `side`, which its line names.
 #[tactic(auto, unfolding(crate::specs::Steps::nonce_line_in))]
-pub fn nonce(alloc: Global, side: Side, line: &Line) -> Result<[u8; 16], LineFault>
+pub fn nonce(alloc: Global, side: Side, line: &Line) -> Result<[u8; NONCE_SIZE], LineFault>
     ensures { Gives (λ n. n) result (on_ok (text_in (line_seen line.now)) (nonce_line_in side)) }
 {
     let text = text(line)?;
@@ -51,7 +52,11 @@ pub fn nonce(alloc: Global, side: Side, line: &Line) -> Result<[u8; 16], LineFau
 
 /// The nonce of `side` from the words of its line.
 #[tactic(auto, unfolding(crate::specs::Steps::nonce_of))]
-fn nonce_of(alloc: Global, side: Side, words: &[&str]) -> Result<Option<[u8; 16]>, OutOfMemory>
+fn nonce_of(
+    alloc: Global,
+    side: Side,
+    words: &[&str],
+) -> Result<Option<[u8; NONCE_SIZE]>, OutOfMemory>
     ensures { IfOk result (λ o. o ≡ nonce_of side (map (λ w. w.now) words.now)) }
 {
     let [first, letter, digits] = words else {

@@ -4,6 +4,7 @@ ghost use Rattle.std.specs.Prelude.{◌≡◌, ◌==◌, ◌∷◌, ◌<◌, [],
 ghost use Rattle.script.specs.Given.{Gives, line_seen};
 ghost use Rattle.script.specs.Lines.{lines_of};
 ghost use Rattle.script.specs.Steps.{text_in};
+ghost use Rattle.text_words.specs.Bytes.{line_feed_byte};
 
 use crate::fault::LineFault;
 use crate::reason::ScriptReason;
@@ -41,7 +42,7 @@ pub fn next_line(bytes: &[u8]) -> Option<Line<'_>>
 }
 
 fn line_end(bytes: &[u8]) -> Option<usize>
-    ensures { result ≡ position (λ b. b == 10) bytes.now }
+    ensures { result ≡ position (λ b. b == line_feed_byte) bytes.now }
 {
     bytes.iter().position(|byte| *byte == b'\n')
 }

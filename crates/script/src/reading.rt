@@ -16,6 +16,7 @@ use crate::reason::ScriptReason;
 use crate::{head, steps};
 use mux_run::{Side, StepList};
 use std::alloc::Global;
+use text_words::NONCE_SIZE;
 use wire_base::Version;
 
 /// The most steps that a script has.
@@ -30,12 +31,12 @@ const FIRST_STEP_LINE: u64 = 3;
 /// The number of the first line that is a step behind two nonces.
 const FIRST_STEP_LINE_BEHIND_NONCES: u64 = 5;
 
-/// A script: the version, the nonces of A and of B, and the steps. In version 3, which has no nonces, both are
-/// sixteen bytes 00.
+/// A script: the version, the nonces of A and of B, and the steps. In version 3, which has no nonces, the bytes of both
+/// are 00.
 #[derive(Debug, Drop)]
 pub struct Script {
     pub version: Version,
-    pub nonces: [[u8; 16]; 2],
+    pub nonces: [[u8; NONCE_SIZE]; 2],
     pub steps: StepList,
 }
 
@@ -77,7 +78,7 @@ fn read_version(alloc: Global, bytes: &[u8]) -> Result<Script, ScriptFault>
         Ok(Version::Three) => read_steps(
             alloc,
             Version::Three,
-            [[0; 16]; 2],
+            [[0; NONCE_SIZE]; 2],
             FIRST_STEP_LINE,
             line.rest,
         ),
@@ -104,7 +105,7 @@ fn read_nonce_a(alloc: Global, version: Version, bytes: &[u8]) -> Result<Script,
 fn read_nonce_b(
     alloc: Global,
     version: Version,
-    nonce_a: [u8; 16],
+    nonce_a: [u8; NONCE_SIZE],
     bytes: &[u8],
 ) -> Result<Script, ScriptFault>
     ensures { Answers script_seen result (nonce_b_from version nonce_a (lines_of bytes.now)) }
@@ -128,7 +129,7 @@ fn read_nonce_b(
 fn read_steps(
     alloc: Global,
     version: Version,
-    nonces: [[u8; 16]; 2],
+    nonces: [[u8; NONCE_SIZE]; 2],
     first: u64,
     bytes: &[u8],
 ) -> Result<Script, ScriptFault>

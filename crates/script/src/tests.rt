@@ -4,6 +4,7 @@ use crate::{Script, ScriptFault, read_script};
 use mux_run::{Call, Side, Step};
 use std::alloc::Global;
 use std::test::Fail;
+use text_words::NONCE_SIZE;
 use wire_base::Version;
 
 fn read(alloc: Global, bytes: &[u8]) -> Result<Script, Fail> {
@@ -150,7 +151,7 @@ const NONCE_A: &str = "nonce A 000102030405060708090a0b0c0d0e0f\n";
 const NONCE_B: &str = "nonce B fffefdfcfbfaf9f8f7f6f5f4f3f2f1f0\n";
 
 /// Whether the head is one of this version, with these nonces.
-fn has_head(script: &Script, version: Version, nonces: [[u8; 16]; 2]) -> bool {
+fn has_head(script: &Script, version: Version, nonces: [[u8; NONCE_SIZE]; 2]) -> bool {
     script.version == version && script.nonces == nonces
 }
 
@@ -158,7 +159,7 @@ fn has_head(script: &Script, version: Version, nonces: [[u8; 16]; 2]) -> bool {
 fn reads_heads(rt: HostRuntime) -> Result<(), Fail> {
     let alloc = rt.alloc();
     let script = read(alloc, b"script 1\nversion 3\n")?;
-    assert!(rt; has_head(&script, Version::Three, [[0; 16]; 2]));
+    assert!(rt; has_head(&script, Version::Three, [[0; NONCE_SIZE]; 2]));
     let nonces = [
         *b"\x00\x01\x02\x03\x04\x05\x06\x07\x08\x09\x0a\x0b\x0c\x0d\x0e\x0f",
         *b"\xff\xfe\xfd\xfc\xfb\xfa\xf9\xf8\xf7\xf6\xf5\xf4\xf3\xf2\xf1\xf0",

@@ -3,7 +3,7 @@ use Rattle.std.proofs.Common.{◌≡◌, ℕ, leb, eqb, true, List, [], ◌∷�
 use Rattle.std.specs.List.{list_all}
 use Rattle.std.proofs.lemmas.Bool.{and_parts}
 use Rattle.std.proofs.lemmas.Option.{option_and_then_some}
-use Rattle.text_words.specs.Written.{is_number, is_byte, is_text_word}
+use Rattle.text_words.specs.Written.{is_number, is_byte, nonce_size, is_text_word}
 use Rattle.text_words.specs.Forms.{Form, side, channel, name, number, limited, bytes, byte, nonce, count, FormValue, read_form, write_form, is_value, FormValues, read_forms, write_forms, are_values}
 use Rattle.text_words.proofs.ByteTests.{and_true}
 use Rattle.text_words.proofs.Values.{side_in-word, channel_in-word, name_in-word, number_in-word, number_up_to-word, bytes_in-word, byte_in-word, nonce_in-word, count_in-word, side_in-some, channel_in-some, name_in-some, number_in-is, number_up_to-some, bytes_in-is, byte_in-some, nonce_in-some, count_in-some}
@@ -42,7 +42,7 @@ write_form-text number x h = text_number x h
 write_form-text (limited limit) x h = text_number x (and_parts (is_number x) (leb x limit) h).0
 write_form-text bytes x h = text_bytes x h
 write_form-text byte x h = text_bytes (x ∷ []) (rw h refl)
-write_form-text nonce x h = text_bytes x (and_parts (eqb (length x) 16) (list_all is_byte x) h).1
+write_form-text nonce x h = text_bytes x (and_parts (eqb (length x) nonce_size) (list_all is_byte x) h).1
 write_form-text count x h = text_count x h
 
 -- the same of a list of forms

@@ -9,6 +9,7 @@ use Rattle.std.proofs.lemmas.List.Folds.{list_all-append}
 use Rattle.std.proofs.lemmas.List.Splits.{join_with_byte-slice_split}
 use Rattle.std.proofs.lemmas.Str.{is_utf8-from_IsUtf8, IsUtf8-from_is_utf8, IsUtf8-from_ascii, IsUtf8-append, IsUtf8-nil}
 use Rattle.std.proofs.lemmas.Str.Ascii.{IsAscii-nil, IsAscii-cons}
+use Rattle.text_words.specs.Bytes.{space}
 use Rattle.text_words.specs.Written.{is_text_word, is_line_text, stands_in_word, stands_in_line}
 use Rattle.text_words.specs.Reading.{words_of}
 use Rattle.text_words.proofs.ByteTests.{and_true}
@@ -33,15 +34,15 @@ words_are_texts (w ∷ words) h g =
     let q = and_parts (is_word w) (list_all is_word words) g in
     rw (p.0, q.0) (words_are_texts words p.1 q.1)
 
-space_front : (text : List ℕ) → IsUtf8 text → IsUtf8 (32 ∷ text)
-space_front text h = IsUtf8-append (32 ∷ []) text (IsUtf8-from_ascii (32 ∷ []) (IsAscii-cons 32 [] (lit< tt) IsAscii-nil)) h
+space_front : (text : List ℕ) → IsUtf8 text → IsUtf8 (space ∷ text)
+space_front text h = IsUtf8-append (space ∷ []) text (IsUtf8-from_ascii (space ∷ []) (IsAscii-cons space [] (lit< tt) IsAscii-nil)) h
 
-utf8_joined : (words : List (List ℕ)) → list_all is_utf8 words ≡ true → IsUtf8 (join_with_byte 32 words)
+utf8_joined : (words : List (List ℕ)) → list_all is_utf8 words ≡ true → IsUtf8 (join_with_byte space words)
 utf8_joined [] h = IsUtf8-nil
 utf8_joined (w ∷ []) h = IsUtf8-from_is_utf8 w (and_parts (is_utf8 w) true h).0
 utf8_joined (w ∷ next ∷ words) h =
     let p = and_parts (is_utf8 w) (list_all is_utf8 (next ∷ words)) h in
-    IsUtf8-append w (32 ∷ join_with_byte 32 (next ∷ words)) (IsUtf8-from_is_utf8 w p.0) (space_front (join_with_byte 32 (next ∷ words)) (utf8_joined (next ∷ words) p.1))
+    IsUtf8-append w (space ∷ join_with_byte space (next ∷ words)) (IsUtf8-from_is_utf8 w p.0) (space_front (join_with_byte space (next ∷ words)) (utf8_joined (next ∷ words) p.1))
 
 stands_on : (b : ℕ) → stands_in_word b ≡ true → stands_in_line b ≡ true
 stands_on b h = grind (arith, nat_tests)
@@ -52,21 +53,21 @@ word_in_line (b ∷ w) h =
     let p = and_parts (stands_in_word b) (is_word w) h in
     rw (stands_on b p.0) (word_in_line w p.1)
 
-feed_joined : (words : List (List ℕ)) → list_all is_word words ≡ true → list_all stands_in_line (join_with_byte 32 words) ≡ true
+feed_joined : (words : List (List ℕ)) → list_all is_word words ≡ true → list_all stands_in_line (join_with_byte space words) ≡ true
 feed_joined [] h = refl
 feed_joined (w ∷ []) h = word_in_line w (and_parts (is_word w) true h).0
 feed_joined (w ∷ next ∷ words) h =
     let p = and_parts (is_word w) (list_all is_word (next ∷ words)) h in
-    rw (list_all-append stands_in_line w (32 ∷ join_with_byte 32 (next ∷ words)), word_in_line w p.0) (feed_joined (next ∷ words) p.1)
+    rw (list_all-append stands_in_line w (space ∷ join_with_byte space (next ∷ words)), word_in_line w p.0) (feed_joined (next ∷ words) p.1)
 
 -- words that are joined are a line
-pub joined-text : (words : List (List ℕ)) → list_all is_text_word words ≡ true → is_line_text (join_with_byte 32 words) ≡ true
+pub joined-text : (words : List (List ℕ)) → list_all is_text_word words ≡ true → is_line_text (join_with_byte space words) ≡ true
 joined-text words h =
-    and_true (is_utf8 (join_with_byte 32 words)) (list_all stands_in_line (join_with_byte 32 words))
-    (is_utf8-from_IsUtf8 (join_with_byte 32 words) (utf8_joined words (texts_are_utf8 words h))) (feed_joined words (texts_are_words words h))
+    and_true (is_utf8 (join_with_byte space words)) (list_all stands_in_line (join_with_byte space words))
+    (is_utf8-from_IsUtf8 (join_with_byte space words) (utf8_joined words (texts_are_utf8 words h))) (feed_joined words (texts_are_words words h))
 
 -- whose words they are
-pub joined-words : (word : List ℕ) (words : List (List ℕ)) → list_all is_text_word (word ∷ words) ≡ true → words_of (join_with_byte 32 (word ∷ words)) ≡ word ∷ words
+pub joined-words : (word : List ℕ) (words : List (List ℕ)) → list_all is_text_word (word ∷ words) ≡ true → words_of (join_with_byte space (word ∷ words)) ≡ word ∷ words
 joined-words word words h = words_of-joined word words (texts_are_words (word ∷ words) h)
 
 -- the words of a line are words, and it is they, joined
@@ -74,4 +75,4 @@ pub line-words : (line : List ℕ) → is_line_text line ≡ true → list_all i
 line-words line h =
     let p = and_parts (is_utf8 line) (list_all stands_in_line line) h in
     let P : List ℕ → Type 0 = λ x. is_utf8 x ≡ true in
-    words_are_texts (words_of line) (utf8_words (words_of line) (subst P (sym (join_with_byte-slice_split 32 line)) p.0)) (words_of-words line p.1)
+    words_are_texts (words_of line) (utf8_words (words_of line) (subst P (sym (join_with_byte-slice_split space line)) p.0)) (words_of-words line p.1)

@@ -16,7 +16,9 @@ use Rattle.hex.specs.Hex.{encode_lower, encode_with, lower_digits}
 use Rattle.mux_run.specs.declared.steps.Side.{Side}
 use Rattle.mux_run.specs.declared.steps.Side.TheVariants.{A, B}
 use Rattle.text_words.specs.declared.channel_name.ChannelName.{ChannelName}
+use Rattle.text_words.specs.Bytes.{space}
 use Rattle.text_words.specs.Written.{side_word, channel_word, name_word, bytes_word, count_word, hyphen, everything, is_number, is_name, is_byte, is_text_word, stands_in_word}
+use Rattle.text_words.specs.Reading.{decimal_base}
 use Rattle.text_words.proofs.ByteTests.{tested, and_true}
 use Rattle.text_words.proofs.Numbers.{own}
 use Rattle.text_words.proofs.HexWords.{lower_is_glyph}
@@ -24,7 +26,7 @@ use Rattle.text_words.proofs.Splits.{is_word}
 
 -- a visible ASCII byte
 abbrev is_visible : ℕ → Bool
-is_visible b = ltb 32 b && ltb b 128
+is_visible b = ltb space b && ltb b 128
 
 abbrev pub is_visible_word : List ℕ → Bool
 is_visible_word w = list_all is_visible w
@@ -33,7 +35,7 @@ ascii_from_test : (w : List ℕ) → is_visible_word w ≡ true → IsAscii w
 ascii_from_test [] h = IsAscii-nil
 ascii_from_test (b ∷ w) h =
     let p = and_parts (is_visible b) (is_visible_word w) h in
-    let q = and_parts (ltb 32 b) (ltb b 128) p.0 in
+    let q = and_parts (ltb space b) (ltb b 128) p.0 in
     IsAscii-cons b w (grind (arith, nat_tests)) (ascii_from_test w p.1)
 
 stands_visible : (b : ℕ) → is_visible b ≡ true → stands_in_word b ≡ true
@@ -48,10 +50,10 @@ word_from_test (b ∷ w) h =
 pub visible_word : (w : List ℕ) → is_visible_word w ≡ true → is_text_word w ≡ true
 visible_word w h = and_true (is_utf8 w) (is_word w) (is_utf8-from_IsUtf8 w (IsUtf8-from_ascii w (ascii_from_test w h))) (word_from_test w h)
 
-visible_digit : (c : ℕ) → digit_value c < 10 → is_visible c ≡ true
+visible_digit : (c : ℕ) → digit_value c < decimal_base → is_visible c ≡ true
 visible_digit c h = let r = digit_from_value c h in grind (arith, nat_tests)
 
-visible_digits : (ds : List ℕ) → AllDigits 10 ds → is_visible_word ds ≡ true
+visible_digits : (ds : List ℕ) → AllDigits decimal_base ds → is_visible_word ds ≡ true
 visible_digits [] h = refl
 visible_digits (c ∷ cs) h = rw (visible_digit c h.0) (visible_digits cs h.1)
 

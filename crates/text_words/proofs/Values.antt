@@ -1,5 +1,5 @@
 -- The values of words: what is written is read, and what is read is written so.
-use Rattle.std.proofs.Common.{◌≡◌, ℕ, zero, suc, ◌<◌, ◌^◌, Bool, true, false, cond, eqb, eqb-true, leb, not, ◌||◌, ◌&&◌, ◌⊎◌, inl, inr, List, [], ◌∷◌, ◌++◌, length, refl, Some, None, sym, ap, subst, codes, arith}
+use Rattle.std.proofs.Common.{◌≡◌, ℕ, zero, suc, ◌<◌, Bool, true, false, cond, eqb, eqb-true, leb, not, ◌||◌, ◌&&◌, ◌⊎◌, inl, inr, List, [], ◌∷◌, ◌++◌, length, refl, Some, None, sym, ap, subst, codes, arith}
 use Rattle.std.specs.Fmt.{decimal, digits}
 use Rattle.std.specs.List.{list_all}
 use Rattle.std.specs.Str.{bytes_eq}
@@ -11,7 +11,7 @@ use Rattle.hex.specs.Hex.{IsBytes}
 use Rattle.mux_run.specs.declared.steps.Side.{Side}
 use Rattle.mux_run.specs.declared.steps.Side.TheVariants.{A, B}
 use Rattle.text_words.specs.declared.channel_name.ChannelName.{ChannelName}
-use Rattle.text_words.specs.Written.{side_word, channel_word, name_word, bytes_word, count_word, hyphen, everything, is_number, is_name, is_byte, is_nonce, is_text_word}
+use Rattle.text_words.specs.Written.{side_word, channel_word, name_word, bytes_word, count_word, hyphen, everything, number_bound, is_number, is_name, is_byte, nonce_size, is_nonce, is_text_word}
 use Rattle.text_words.specs.Reading.{side_in, front_in, number_in, number_up_to, channel_in, name_in, bytes_in, byte_in, only_byte, nonce_in, count_in}
 use Rattle.text_words.proofs.ByteTests.{tested, not_true, same_from_bytes_eq, and_true, chosen}
 use Rattle.text_words.proofs.Numbers.{number_in-decimal, number_in-some}
@@ -68,7 +68,7 @@ byte_in-word b h = rw (bytes_in-word (b ∷ []) (rw h refl)) refl
 pub nonce_in-word : (nonce : List ℕ) → is_nonce nonce ≡ true → nonce_in (bytes_word nonce) ≡ Some nonce
 unfolding nonce_in
 nonce_in-word nonce h =
-    let p = and_parts (eqb (length nonce) 16) (list_all is_byte nonce) h in
+    let p = and_parts (eqb (length nonce) nonce_size) (list_all is_byte nonce) h in
     rw (bytes_in-word nonce p.1, p.0) refl
 
 all_is_no_number : number_in (codes "all") ≡ None
@@ -104,7 +104,7 @@ side_in-some w s h = elim (chosen_side (bytes_eq w (codes "A")) (bytes_eq w (cod
   | inr p ↦ rw (← p.1) (sym (same_from_bytes_eq w (codes "B") p.0))
 ]
 
-is_number-below : (n : ℕ) → n < 2 ^ 32 → is_number n ≡ true
+is_number-below : (n : ℕ) → n < number_bound → is_number n ≡ true
 is_number-below n h = grind (arith, nat_tests)
 
 pub number_in-is : (w : List ℕ) (n : ℕ) → number_in w ≡ Some n → (decimal n ≡ w) × (is_number n ≡ true)
@@ -185,9 +185,9 @@ pub nonce_in-some : (w nonce : List ℕ) → nonce_in w ≡ Some nonce → (byte
 unfolding nonce_in
 nonce_in-some w nonce h =
     option_and_then_some _ (bytes_in w) nonce h (λ bs e g.
-    let p = cond_some (eqb (length bs) 16) bs nonce g in
+    let p = cond_some (eqb (length bs) nonce_size) bs nonce g in
     let read = bytes_in-is w bs e in
-    rw (← p.1) (read.0, and_true (eqb (length bs) 16) (list_all is_byte bs) p.0 read.1))
+    rw (← p.1) (read.0, and_true (eqb (length bs) nonce_size) (list_all is_byte bs) p.0 read.1))
 
 pub count_in-some : (w : List ℕ) (n : ℕ) → count_in w ≡ Some n → (count_word n ≡ w) × ((is_number n || eqb n everything) ≡ true)
 unfolding count_in

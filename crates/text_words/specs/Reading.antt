@@ -8,7 +8,8 @@ use Rattle.hex.specs.Hex.{decode_of}
 use Rattle.mux_run.specs.declared.steps.Side.{Side}
 use Rattle.mux_run.specs.declared.steps.Side.TheVariants.{A, B}
 use Rattle.text_words.specs.declared.channel_name.ChannelName.{ChannelName}
-use Rattle.text_words.specs.Written.{is_number, hyphen, bytes_word, everything}
+use Rattle.text_words.specs.Bytes.{space, plus, zero_digit, capital_a, capital_z}
+use Rattle.text_words.specs.Written.{is_number, hyphen, bytes_word, everything, nonce_size}
 
 -- what the next part makes of the value, where there is one
 infixl 10 ◌>>=◌
@@ -17,7 +18,7 @@ o >>= f = option_and_then f o
 
 -- the words of a line: what stands between its spaces
 abbrev pub words_of : List ℕ → List (List ℕ)
-words_of line = slice_split (λ b. b == 32) line
+words_of line = slice_split (λ b. b == space) line
 
 -- the value, if the word is how it is written
 abbrev pub if_written : {X : Type 0} → (X → List ℕ) → List ℕ → X → Option X
@@ -27,9 +28,13 @@ if_written written word x = if bytes_eq (written x) word then Some x else None
 unfoldable pub side_in : List ℕ → Option Side
 side_in word = if bytes_eq word (codes "A") then Some A else if bytes_eq word (codes "B") then Some B else None
 
+-- the base of the digits of a number
+abbrev pub decimal_base : ℕ
+decimal_base = 10
+
 -- decimal digits without a leading zero
 unfoldable pub number_in : List ℕ → Option ℕ
-number_in word = if is_number (digits_value 10 word) then if_written decimal word (digits_value 10 word) else None
+number_in word = if is_number (digits_value decimal_base word) then if_written decimal word (digits_value decimal_base word) else None
 
 -- such a number, if it is at most this limit
 unfoldable pub number_up_to : ℕ → List ℕ → Option ℕ
@@ -39,7 +44,7 @@ number_up_to limit word = do
 
 -- a sign stands in front, or a zero that isn't all
 abbrev pub has_other_front : List ℕ → Bool
-has_other_front word = slice_index word 0 == 43 || (slice_index word 0 == 48 && nat_lt 1 (length word))
+has_other_front word = slice_index word 0 == plus || (slice_index word 0 == zero_digit && nat_lt 1 (length word))
 
 -- the side that the first letter names, and what follows it
 unfoldable pub front_in : List ℕ → Option (Side × List ℕ)
@@ -75,11 +80,11 @@ byte_in word = bytes_in word >>= only_byte
 unfoldable pub nonce_in : List ℕ → Option (List ℕ)
 nonce_in word = do
   nonce ← bytes_in word
-  if length nonce == 16 then Some nonce else None
+  if length nonce == nonce_size then Some nonce else None
 
 -- a capital letter, which stands in no hex word
 abbrev pub is_capital : ℕ → Bool
-is_capital b = nat_le 65 b && nat_le b 90
+is_capital b = nat_le capital_a b && nat_le b capital_z
 
 -- a number, or the greatest count of its type
 unfoldable pub count_in : List ℕ → Option ℕ

@@ -7,6 +7,7 @@ use Rattle.mux_items.specs.declared.channel.ChannelKey.{ChannelKey}
 use Rattle.mux_run.specs.declared.steps.Side.{Side}
 use Rattle.mux_run.specs.declared.steps.Side.TheVariants.{A, B}
 use Rattle.text_words.specs.declared.channel_name.ChannelName.{ChannelName}
+use Rattle.text_words.specs.Bytes.{space, line_feed_byte}
 
 -- the letter of a side
 abbrev pub side_word : Side → List ℕ
@@ -58,21 +59,25 @@ everything = 2 ^ 64 - 1
 abbrev pub count_word : ℕ → List ℕ
 count_word count = if count == everything then codes "all" else decimal count
 
--- the byte that ends a line
+-- the text that ends a line
 abbrev pub line_feed : List ℕ
-line_feed = 10 ∷ []
+line_feed = line_feed_byte ∷ []
+
+-- the numbers that words can be are below this
+abbrev pub number_bound : ℕ
+number_bound = 2 ^ 32
 
 -- a number that a word can be
 abbrev pub is_number : ℕ → Bool
-is_number n = nat_lt n (2 ^ 32)
+is_number n = nat_lt n number_bound
 
 -- neither a space nor a line feed
 abbrev pub stands_in_word : ℕ → Bool
-stands_in_word b = not (b == 32 || b == 10)
+stands_in_word b = not (b == space || b == line_feed_byte)
 
 -- no line feed
 abbrev pub stands_in_line : ℕ → Bool
-stands_in_line b = not (b == 10)
+stands_in_line b = not (b == line_feed_byte)
 
 -- a text without a line feed
 abbrev pub is_line_text : List ℕ → Bool
@@ -90,6 +95,10 @@ is_name name = is_text_word name && not (bytes_eq name hyphen)
 abbrev pub is_byte : ℕ → Bool
 is_byte b = nat_lt b 256
 
--- a nonce has sixteen bytes
+-- a nonce has so many bytes
+abbrev pub nonce_size : ℕ
+nonce_size = 16
+
+-- the bytes of a nonce
 abbrev pub is_nonce : List ℕ → Bool
-is_nonce nonce = length nonce == 16 && list_all is_byte nonce
+is_nonce nonce = length nonce == nonce_size && list_all is_byte nonce

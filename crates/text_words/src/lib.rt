@@ -11,4 +11,6 @@ pub use laws::words_are_read_as_written;
 pub use push::{
     push_bytes, push_channel, push_decimal, push_hex, push_line_feed, push_side, push_text,
 };
-pub use read::{byte, bytes, channel, count, limited_number, name, nonce, number, side, words};
+pub use read::{
+    NONCE_SIZE, byte, bytes, channel, count, limited_number, name, nonce, number, side, words,
+};

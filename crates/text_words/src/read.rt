@@ -11,6 +11,9 @@ use mux_run::Side;
 use std::alloc::Global;
 use wire_base::{Blob, OutOfMemory, Text};
 
+/// A nonce has so many bytes.
+pub const NONCE_SIZE: usize = 16;
+
 /// What stands between the spaces of a line.
 pub fn words(alloc: Global, line: &str) -> Result<Vec<&str>, OutOfMemory>
     ensures { IfOk result (λ v. map (λ w. w.now) v.items ≡ words_of line.now) }
@@ -127,15 +130,15 @@ pub fn byte(alloc: Global, word: &str) -> Result<Option<u8>, OutOfMemory>
     }
 }
 
-/// A nonce, whose sixteen bytes have two digits each.
+/// A nonce, whose bytes have two digits each.
 #[tactic(auto, unfolding(crate::specs::Reading::nonce_in))]
-pub fn nonce(alloc: Global, word: &str) -> Result<Option<[u8; 16]>, OutOfMemory>
+pub fn nonce(alloc: Global, word: &str) -> Result<Option<[u8; NONCE_SIZE]>, OutOfMemory>
     ensures { IfOk result (λ o. o ≡ nonce_in word.now) }
 {
     let Some(bytes) = bytes(alloc, word)? else {
         return Ok(None);
     };
-    Ok(<[u8; 16]>::try_from(bytes.as_bytes()).ok())
+    Ok(<[u8; NONCE_SIZE]>::try_from(bytes.as_bytes()).ok())
 }
 
 /// A number, or `all`, which is read as the greatest count.
