@@ -14,7 +14,7 @@ use Rattle.wire_base.specs.declared.frame.Origin.TheVariants as origin
 use Rattle.wire_base.specs.declared.frame.Payload.{Payload}
 use Rattle.wire_base.specs.declared.frame.Payload.TheVariants as payload
 use Rattle.wire_base.specs.declared.frame.Frame.{Frame}
-use Rattle.text_words.specs.Written.{hyphen, bytes_word, line_feed}
+use Rattle.text_words.specs.Written.{hyphen, bytes_word, line_feed, nonce_size}
 
 -- the name of a code
 abbrev pub code_name : Code → List ℕ
@@ -50,9 +50,9 @@ frame_line place f =
     decimal place ++ codes " " ++ code_name f.code ++ codes " " ++ decimal f.id ++ codes " " ++ origin_word f.origin
     ++ payload_words f.payload ++ line_feed
 
--- the nonce of a handshake, which is its last sixteen bytes
+-- the nonce of a handshake, which it ends with
 abbrev pub nonce_of : (handshake : List ℕ) → List ℕ
-nonce_of handshake = drop (length handshake - 16) handshake
+nonce_of handshake = drop (length handshake - nonce_size) handshake
 
 -- the handshake, which version 3 doesn't have
 abbrev pub hello_line : Version → (handshake : List ℕ) → List ℕ

@@ -6,7 +6,7 @@ ghost use Rattle.stream_view.specs.Lines.{code_name, origin_word, window_word, p
 
 use serde_json::Value;
 use std::alloc::Global;
-use text_words::{push_bytes, push_decimal, push_hex, push_line_feed, push_text};
+use text_words::{NONCE_SIZE, push_bytes, push_decimal, push_hex, push_line_feed, push_text};
 use wire_base::{Code, Frame, Origin, OutOfMemory, Payload, Place, Reason, Version};
 
 fn code_name(code: Code) -> &'static str
@@ -94,7 +94,7 @@ pub(crate) fn frame_line(alloc: Global, place: Place, frame: &Frame) -> Result<V
     Ok(line)
 }
 
-/// The line of a whole handshake, whose last sixteen bytes are the nonce. Version 3 has none.
+/// The line of a whole handshake, which ends with the nonce. Version 3 has none.
 pub(crate) fn hello_line(
     alloc: Global,
     version: Version,
@@ -110,7 +110,7 @@ pub(crate) fn hello_line(
             push_hex(
                 alloc,
                 &mut line,
-                &handshake[handshake.len().saturating_sub(16)..],
+                &handshake[handshake.len().saturating_sub(NONCE_SIZE)..],
             )?;
             push_line_feed(&mut line)?;
         }
