@@ -178,6 +178,41 @@ fn bytes_are_shown_and_not_written(rt: HostRuntime) -> Result<(), Fail> {
     Ok(())
 }
 
+fn words_value(alloc: Global, text: &str) -> Result<Datum, Fail> {
+    Ok(Datum {
+        node: Node::Words(Text::from_str(alloc, text)?),
+    })
+}
+
+#[test]
+fn texts_are_shown_with_escapes(rt: HostRuntime) -> Result<(), Fail> {
+    let table: [(&str, &str); 6] = [
+        ("", "reply \"\""),
+        ("a b/c", "reply \"a b/c\""),
+        ("\"\\", "reply \"\\\"\\\\\""),
+        ("\u{8}\t\n\u{c}\r", "reply \"\\b\\t\\n\\f\\r\""),
+        ("\0\u{1f}\u{7f}", "reply \"\\u0000\\u001f\u{7f}\""),
+        ("\u{e9}\u{1f600}", "reply \"\u{e9}\u{1f600}\""),
+    ];
+    for (text, line) in table {
+        let value = words_value(rt.alloc(), text)?;
+        assert!(rt; shows(rt.alloc(), &value, line.as_bytes())?, "of {line}");
+    }
+    Ok(())
+}
+
+/// No value is too deep to be shown.
+#[test]
+fn a_value_is_shown_at_any_depth(rt: HostRuntime) -> Result<(), Fail> {
+    for depth in [1, 127, 128, 300] {
+        let value = nested(rt.alloc(), depth)?;
+        let mut line = Vec::from_slice(rt.alloc(), b"reply ")?;
+        line.append(&mut brackets(rt.alloc(), depth)?)?;
+        assert!(rt; shows(rt.alloc(), &value, line.as_slice())?, "at {depth}");
+    }
+    Ok(())
+}
+
 /// At nesting 127 a value with bytes is told to have them; one level more is told first.
 #[test]
 fn too_deep_comes_before_bytes(rt: HostRuntime) -> Result<(), Fail> {
