@@ -17,7 +17,7 @@ member_read done k d t ms e = rw e (pairs_more done (k, t) (pair_list ms))
 -- ---- readings
 
 module _ {T : Type 0} where
-  some_is_one : (a b : T) → Some a ≡ Some b → a ≡ b
+  pub some_is_one : (a b : T) → Some a ≡ Some b → a ≡ b
   some_is_one a b e = cc
 
 pub one_reading : (b : List ℕ) (t u : Tree) → IsReading b t → IsReading b u → t ≡ u

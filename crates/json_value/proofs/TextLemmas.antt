@@ -1,5 +1,5 @@
 -- The text of a value is UTF-8, and is read as the value's normal form.
-use Rattle.std.proofs.Common.{◌≡◌, ℕ, ◌≤◌, ℤ, pos, negsuc, Bool, true, false, List, [], ◌∷◌, Some, option_map, option_and_then, IsUtf8, refl, sym, ap, ◌∙◌, append-nil, arith}
+use Rattle.std.proofs.Common.{◌≡◌, ℕ, ◌≤◌, max, ℤ, pos, negsuc, Bool, true, false, List, [], ◌∷◌, Option, Some, option_map, option_and_then, IsUtf8, refl, sym, ap, ◌∙◌, append-nil, arith}
 use Rattle.std.proofs.lemmas.Bool.{or_parts}
 use Rattle.std.proofs.lemmas.Fmt.{IsAscii-signed, IsAscii-decimal}
 use Rattle.std.proofs.lemmas.Int.{ints}
@@ -17,7 +17,7 @@ use Rattle.json.proofs.Printed.Tokens.{tokens-print}
 use Rattle.json.proofs.Printed.Utf8.{are_ascii, IsUtf8-are_ascii, IsUtf8-quoted, IsUtf8-boolean}
 use Rattle.serde_json.specs.Data as json
 use Rattle.serde_json.specs.Find.{of_integer}
-use Rattle.serde_json.specs.Read.{number_of, of_json, of_items, of_members, read, max_depth}
+use Rattle.serde_json.specs.Read.{number_of, of_json, of_items, of_members, max_depth}
 use Rattle.serde_json.specs.Written.{number_text, outline, items_outline, members_outline, compact_text, items_text, members_text, comma_if}
 use Rattle.serde_json.proofs.Numbers.{number_of-decimal, number_of-negative}
 use Rattle.serde_json.proofs.Texts.{print-outline}
@@ -26,10 +26,11 @@ use Rattle.wire_base.specs.Whole.{IsWhole}
 use Rattle.wire_base.specs.Values.{max_nesting, nesting, holds_bytes, items_hold_bytes, pairs_hold_bytes}
 use Rattle.json_value.specs.Value.{IsValue, AreValues, ArePairs}
 use Rattle.json_value.specs.Normal.{key_cmp, put, norm, norm_items, norm_onto}
-use Rattle.json_value.specs.Json.{data_of, data_items, data_members, json_text}
+use Rattle.json_value.specs.Json.{data_of, data_items, data_members, shown, json_text}
 use Rattle.json_value.specs.Reading.{IsReading}
 use Rattle.json_value.proofs.NormLemmas.{norm-norm}
 use Rattle.json_value.proofs.ReadsBack.{bytes-norm, reads_back}
+use Rattle.json_value.proofs.Readings.{some_is_one}
 use Rattle.json_value.proofs.Writings.{plain, data_members-put}
 
 -- ---- a whole number
@@ -104,13 +105,17 @@ mutual
   HasNumbers-data_members no_pairs h = tt
   HasNumbers-data_members (pair k t ps) h = (HasNumbers-data_of t h.1, HasNumbers-data_members ps h.2)
 
--- the text of a value's data is read as the data of its normal form
-pub read-compact_text : (t : Tree) → IsValue t → json.depth (data_of t) ≤ max_depth → read (compact_text (data_of t)) ≡ Some (plain t)
-read-compact_text t h shallow =
+-- a text as the crate reads it, with room for values nested n deep
+abbrev read_within : ℕ → List ℕ → Option json.Data
+read_within n s = option_and_then of_json (option_and_then (λ p. grammar.if_last p.0 p.1) (grammar.value n (tokens s)))
+
+-- the text of a value's data is read as the data of its normal form, where there is room for it
+read_within-compact_text : (n : ℕ) (t : Tree) → IsValue t → json.depth (data_of t) ≤ n → read_within n (compact_text (data_of t)) ≡ Some (plain t)
+read_within-compact_text n t h shallow =
     let j = outline (data_of t) in
     let same = ap tokens (sym (print-outline (data_of t))) ∙ tokens-print (grown.json_tokens j) (ArePrintable-json_tokens j (HasNumbers-data_of t h)) in
-    ap (λ ts. option_and_then of_json (option_and_then (λ p. grammar.if_last p.0 p.1) (grammar.value max_depth ts))) (same ∙ sym (append-nil _))
-    ∙ ap (λ o. option_and_then of_json (option_and_then (λ p. grammar.if_last p.0 p.1) o)) (value-json_tokens j max_depth [] (rw (depth-outline (data_of t)) shallow))
+    ap (λ ts. option_and_then of_json (option_and_then (λ p. grammar.if_last p.0 p.1) (grammar.value n ts))) (same ∙ sym (append-nil _))
+    ∙ ap (λ o. option_and_then of_json (option_and_then (λ p. grammar.if_last p.0 p.1) o)) (value-json_tokens j n [] (rw (depth-outline (data_of t)) shallow))
     ∙ of_json-data_of t h
 
 -- ---- UTF-8
@@ -176,8 +181,15 @@ mutual
 
 -- ---- what is written is read
 
+-- what is shown of a value is read as the data of its normal form, where there is room for it
+read_within-shown : (n : ℕ) (t : Tree) → IsValue t → json.depth (data_of (norm t)) ≤ n → read_within n (shown t) ≡ Some (data_of (norm t))
+read_within-shown n t v shallow = read_within-compact_text n (norm t) (IsValue-norm t v) shallow ∙ ap (λ u. Some (data_of u)) (norm-norm t)
+
 pub IsReading-json_text : (t : Tree) → IsValue t → nesting t ≤ max_nesting → holds_bytes t ≡ false → IsReading (json_text t) (norm t)
-IsReading-json_text t v h e =
-    let normal = IsValue-norm t v in
-    let none = bytes-norm t e in
-    reads_back t h e (IsUtf8-compact_text (norm t) normal none) (λ shallow. read-compact_text (norm t) normal shallow ∙ ap (λ u. Some (data_of u)) (norm-norm t))
+IsReading-json_text t v h e = reads_back t h e (IsUtf8-compact_text (norm t) (IsValue-norm t v) (bytes-norm t e)) (read_within-shown max_depth t v)
+
+-- values that are shown alike have one normal form, as data
+pub one_data : (t u : Tree) → IsValue t → IsValue u → shown t ≡ shown u → data_of (norm t) ≡ data_of (norm u)
+one_data t u v w e =
+    let n = max (json.depth (data_of (norm t))) (json.depth (data_of (norm u))) in
+    some_is_one _ _ (sym (read_within-shown n t v (omega arith)) ∙ ap (read_within n) e ∙ read_within-shown n u w (omega arith))

@@ -16,6 +16,25 @@ hex_text (b ∷ bs) = encode_lower (b ∷ bs)
 abbrev pub shown_bytes : List ℕ → json.Data
 shown_bytes s = json.object (json.member (codes "$bytes") (json.string (hex_text s)) json.no_members)
 
+-- The value with its bytes as they are shown: each is a map of one member, its hex.
+abbrev mutual
+  pub with_hex : Tree → Tree
+  with_hex nil = nil
+  with_hex (flag b) = flag b
+  with_hex (whole z) = whole z
+  with_hex (words s) = words s
+  with_hex (bytes s) = pairs (pair (codes "$bytes") (words (hex_text s)) no_pairs)
+  with_hex (items ts) = items (items_with_hex ts)
+  with_hex (pairs ps) = pairs (pairs_with_hex ps)
+
+  pub items_with_hex : Trees → Trees
+  items_with_hex no_items = no_items
+  items_with_hex (item t ts) = item (with_hex t) (items_with_hex ts)
+
+  pub pairs_with_hex : Pairs → Pairs
+  pairs_with_hex no_pairs = no_pairs
+  pairs_with_hex (pair k t ps) = pair k (with_hex t) (pairs_with_hex ps)
+
 -- A value as the crate `serde_json` has it, case by case.
 abbrev mutual
   pub data_of : Tree → json.Data

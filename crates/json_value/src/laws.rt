@@ -6,7 +6,7 @@ ghost use Rattle.wire_base.specs.Find.{last_of};
 ghost use Rattle.wire_base.specs.Values.{max_nesting, nesting, holds_bytes};
 ghost use Rattle.json_value.specs.Value.{IsValue};
 ghost use Rattle.json_value.specs.Normal.{norm, norm_onto, IsNormal};
-ghost use Rattle.json_value.specs.Json.{json_text};
+ghost use Rattle.json_value.specs.Json.{with_hex, shown, json_text};
 ghost use Rattle.json_value.specs.Reading.{IsReading, HasNoReading, HasFloat};
 
 /// A normal form has ordered keys, each with the last of its values, and is no deeper. What has ordered keys is its
@@ -22,6 +22,15 @@ pub fn norms_are_normal()
 /// What is written for a value is read as its normal form.
 pub fn written_is_read()
     ensures { (t : Tree) → IsValue t → nesting t ≤ max_nesting → holds_bytes t ≡ false → IsReading (json_text t) (norm t) }
+{}
+
+/// A value is shown by the JSON text of the same value with its bytes as maps of their hex. That text is read as their
+/// normal form, and values that are shown alike have one such form, however deep they are.
+pub fn shown_is_read()
+    ensures text { (t : Tree) → shown t ≡ json_text (with_hex t) }
+    ensures no_bytes { (t : Tree) → holds_bytes (with_hex t) ≡ false }
+    ensures read { (t : Tree) → IsValue t → nesting (with_hex t) ≤ max_nesting → IsReading (shown t) (norm (with_hex t)) }
+    ensures one { (t u : Tree) → IsValue t → IsValue u → shown t ≡ shown u → norm (with_hex t) ≡ norm (with_hex u) }
 {}
 
 /// Bytes are JSON of one value at most, and then neither without a reading nor with a float.
