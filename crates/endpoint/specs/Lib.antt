@@ -1,0 +1,9 @@
+pub mod Value
+pub mod Stands
+pub mod Replies
+pub mod Changes
+pub mod Sending
+pub mod Steps
+pub mod Calls
+pub mod Refusing
+pub mod Beginning
