@@ -18,3 +18,6 @@ pub use rpc_end::{
     Params, RpcEvent, Target,
 };
 pub use step::{EndEvent, EndStep};
+
+#[cfg(test)]
+mod tests;
