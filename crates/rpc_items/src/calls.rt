@@ -1,6 +1,6 @@
 //! What a connection is asked to do, and what it tells.
 
-ghost use Rattle.std.specs.Prelude.{◌≡◌, [], ◌∷◌, ◌++◌, length, slice_get, OnOk, OnErr};
+ghost use Rattle.std.specs.Prelude.{◌≡◌, [], ◌∷◌, ◌++◌, length, slice_get, IfOk, OnOk, OnErr};
 ghost use Rattle.std.specs.Option.{option_copied};
 
 use crate::messages::Params;
@@ -165,4 +165,90 @@ pub enum RpcEvent {
     Handled(Text),
     /// A response to no unanswered request.
     Stray,
+}
+
+fn copied(alloc: Global, value: &Option<Datum>) -> Result<Option<Datum>, OutOfMemory>
+    ensures { IfOk result (λ d. d ≡ value.now) }
+{
+    match value {
+        Some(value) => Ok(Some(value.copy(alloc)?)),
+        None => Ok(None),
+    }
+}
+
+impl Arg {
+    /// An equal value of its own.
+    pub fn copy(&self, alloc: Global) -> Result<Arg, OutOfMemory>
+        ensures { IfOk result (λ a. a ≡ self.now) }
+    {
+        match self {
+            Arg::Plain(value) => Ok(Arg::Plain(value.copy(alloc)?)),
+            Arg::Progress => Ok(Arg::Progress),
+            Arg::Object(object, lifetime) => Ok(Arg::Object(*object, *lifetime)),
+            Arg::Handed(handle) => Ok(Arg::Handed(*handle)),
+        }
+    }
+}
+
+impl ArgList {
+    /// An equal value of its own.
+    pub fn copy(&self, alloc: Global) -> Result<ArgList, OutOfMemory>
+        ensures { IfOk result (λ a. a ≡ self.now) }
+    {
+        let mut out = ArgList::new(alloc);
+        for arg in self.items.iter() {
+            let arg = arg.copy(alloc)?;
+            out.push(arg)?;
+        }
+        Ok(out)
+    }
+}
+
+impl Arguments {
+    /// An equal value of its own.
+    pub fn copy(&self, alloc: Global) -> Result<Arguments, OutOfMemory>
+        ensures { IfOk result (λ a. a ≡ self.now) }
+    {
+        match self {
+            Arguments::Absent => Ok(Arguments::Absent),
+            Arguments::List(args) => Ok(Arguments::List(args.copy(alloc)?)),
+            Arguments::Named(args) => Ok(Arguments::Named(args.copy(alloc)?)),
+        }
+    }
+}
+
+impl Answer {
+    /// An equal value of its own.
+    pub fn copy(&self, alloc: Global) -> Result<Answer, OutOfMemory>
+        ensures { IfOk result (λ a. a ≡ self.now) }
+    {
+        match self {
+            Answer::Value(value) => Ok(Answer::Value(value.copy(alloc)?)),
+            Answer::Object(object) => Ok(Answer::Object(*object)),
+            Answer::Sequence(values, page, first) => {
+                Ok(Answer::Sequence(values.copy(alloc)?, *page, *first))
+            }
+            Answer::Fault(code, text, more) => {
+                let text = text.copy(alloc)?;
+                Ok(Answer::Fault(*code, text, copied(alloc, more)?))
+            }
+        }
+    }
+}
+
+impl Outcome {
+    /// An equal value of its own.
+    pub fn copy(&self, alloc: Global) -> Result<Outcome, OutOfMemory>
+        ensures { IfOk result (λ o. o ≡ self.now) }
+    {
+        match self {
+            Outcome::Replied(value) => Ok(Outcome::Replied(value.copy(alloc)?)),
+            Outcome::Failed(code, text, more) => {
+                let text = text.copy(alloc)?;
+                Ok(Outcome::Failed(*code, text, copied(alloc, more)?))
+            }
+            Outcome::Lost => Ok(Outcome::Lost),
+            Outcome::Starved => Ok(Outcome::Starved),
+        }
+    }
 }
