@@ -12,3 +12,5 @@ pub mod Rows
 pub mod Spoken
 pub mod Joined
 pub mod Exchange
+pub mod Asked
+pub mod Built

@@ -1,0 +1,70 @@
+//! What an end with connections is asked to do.
+
+ghost use Rattle.std.specs.Prelude.{◌≡◌, IfOk};
+
+use mux_items::ChannelKey;
+use rpc_end::{Answer, Arguments, Expect, Terms};
+use std::alloc::Global;
+use wire_base::{Id, OutOfMemory, Text};
+
+/// A call of an end with connections.
+#[derive(Debug, Drop)]
+pub enum Call {
+    /// One of its multiplexing end.
+    Mux(mux_items::Call),
+    /// A connection is attached to a channel, to write and read its messages so.
+    Attach(ChannelKey, Terms),
+    /// The connection of a channel says a request.
+    Request(ChannelKey, Text, Arguments, Expect),
+    /// It says a notification.
+    Notify(ChannelKey, Text, Arguments),
+    /// It says the one response to a request of the peer.
+    Respond(ChannelKey, Id, Answer),
+    /// What became of one of its requests is asked for. This changes nothing.
+    Outcome(ChannelKey, u64),
+    /// A known outcome is dropped.
+    Forget(ChannelKey, u64),
+}
+
+fn copied(alloc: Global, call: &mux_items::Call) -> Result<mux_items::Call, OutOfMemory>
+    ensures { IfOk result (λ c. c ≡ call.now) }
+{
+    match call {
+        mux_items::Call::Offer(name, window) => {
+            Ok(mux_items::Call::Offer(name.copy(alloc)?, *window))
+        }
+        mux_items::Call::Accept(key, window) => Ok(mux_items::Call::Accept(*key, *window)),
+        mux_items::Call::Write(key, bytes) => {
+            Ok(mux_items::Call::Write(*key, bytes.copy(alloc)?))
+        }
+        mux_items::Call::Read(key, max) => Ok(mux_items::Call::Read(*key, *max)),
+        mux_items::Call::Complete(key) => Ok(mux_items::Call::Complete(*key)),
+        mux_items::Call::Terminate(key) => Ok(mux_items::Call::Terminate(*key)),
+    }
+}
+
+impl Call {
+    /// An equal value of its own.
+    pub fn copy(&self, alloc: Global) -> Result<Call, OutOfMemory>
+        ensures { IfOk result (λ c. c ≡ self.now) }
+    {
+        match self {
+            Call::Mux(call) => Ok(Call::Mux(copied(alloc, call)?)),
+            Call::Attach(key, terms) => Ok(Call::Attach(*key, *terms)),
+            Call::Request(key, method, args, expect) => {
+                let method = method.copy(alloc)?;
+                Ok(Call::Request(*key, method, args.copy(alloc)?, *expect))
+            }
+            Call::Notify(key, method, args) => {
+                let method = method.copy(alloc)?;
+                Ok(Call::Notify(*key, method, args.copy(alloc)?))
+            }
+            Call::Respond(key, id, answer) => {
+                let id = id.copy(alloc)?;
+                Ok(Call::Respond(*key, id, answer.copy(alloc)?))
+            }
+            Call::Outcome(key, n) => Ok(Call::Outcome(*key, *n)),
+            Call::Forget(key, n) => Ok(Call::Forget(*key, *n)),
+        }
+    }
+}

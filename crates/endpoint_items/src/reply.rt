@@ -1,0 +1,23 @@
+//! What an end with connections answers to a call.
+
+use mux_items::ChannelKey;
+use rpc_end::Outcome;
+use wire_base::{Blob, Refusal};
+
+/// What a call answers.
+#[derive(Debug, Drop)]
+pub enum Reply {
+    Done,
+    /// The channel that was offered.
+    Made(ChannelKey),
+    /// The bytes that were read.
+    Bytes(Blob),
+    /// The number of the request that was said.
+    Number(u64),
+    /// What became of a request.
+    Known(Outcome),
+    /// Nothing is known of it yet.
+    NotYet,
+    Refused(Refusal),
+    OutOfMemory,
+}
