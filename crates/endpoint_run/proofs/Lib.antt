@@ -22,4 +22,6 @@ pub mod Midway
 pub mod Quiet
 pub mod Asked
 pub mod Exchanging
+pub mod Telling
 mod Worked
+mod WorkedAnswers

@@ -7,3 +7,4 @@ pub mod Settled
 pub mod Midway
 pub mod Quiet
 pub mod Exchange
+pub mod Answers

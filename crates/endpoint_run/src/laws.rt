@@ -1,13 +1,19 @@
 //! Laws of every run.
 
-ghost use Rattle.std.specs.Prelude.{◌≡◌, ◌≤◌, ◌+◌, ◌++◌, ◌∷◌, ℕ, List, true, Some, None};
+ghost use Rattle.std.specs.Prelude.{◌≡◌, ◌≤◌, ◌+◌, ◌++◌, ◌∷◌, [], ℕ, List, true, Some, None};
 ghost use Rattle.mux_items.specs.Items.{is_running};
 ghost use Rattle.mux_run.specs.Run.{Terms, SideTerms, RunSide};
 ghost use Rattle.mux_run.specs.Fed.{LieWithin};
 ghost use Rattle.endpoint_items.specs.Items.{EndItem};
+ghost use Rattle.endpoint_items.specs.declared.call.Call.TheVariants as call;
+ghost use Rattle.mux_items.specs.declared.channel.ChannelKey.{ChannelKey};
+ghost use Rattle.mux_run.specs.declared.steps.Side.{Side};
 ghost use Rattle.endpoint_items.specs.Layers.{mux_of};
 ghost use Rattle.endpoint_run.specs.Next.{next_item, settled_in};
-ghost use Rattle.endpoint_run.specs.Run.{EndStep, EndWorld, side_of, in_step, end_run};
+ghost use Rattle.endpoint_run.specs.Run.{EndSide, EndStep, EndWorld, side_of, in_step, end_run};
+ghost use Rattle.endpoint_run.specs.Answers.{TellsOfNew, made_step, run, world_by};
+ghost use Rattle.endpoint_run.specs.declared.steps.Step.{Step};
+ghost use Rattle.endpoint_run.specs.declared.steps.Step.TheVariants as step;
 ghost use Rattle.endpoint_run.specs.Moments.{HasGrown};
 ghost use Rattle.endpoint_run.specs.Finer.{IsFinerRun};
 ghost use Rattle.endpoint_run.specs.Safe.{IsSafeRun, KeepsRulesRun};
@@ -60,6 +66,14 @@ pub fn items_are_applied_one_by_one()
     ensures turn { (w : SideTerms) (given : ℕ) (y : RunSide) (turns : ℕ) (item : EndItem) (items : List EndItem) → next_item w given y (settled_in w given y turns items) ≡ Some item → settled_in w given y (turns + 1) items ≡ item ∷ settled_in w given y turns items }
     ensures ends { (w : SideTerms) (given : ℕ) (y : RunSide) (items : List EndItem) → next_item w given y items ≡ None → all_applied w given y items ≡ items }
     ensures lies { (w : SideTerms) (given : ℕ) (y : RunSide) (items : List EndItem) → IsMidway w given y items → is_running (mux_of w.version items) ≡ true → LieWithin w given (mux_of w.version items) y }
+{}
+
+/// A question changes nothing: the run goes on as without it. Each other step adds items to its side and tells the
+/// events of just these.
+pub fn steps_tell_of_what_they_add()
+    ensures question { (terms : Terms) (side : Side) (c : ChannelKey) (n : ℕ) (steps : List Step) → run terms (steps ++ step.Call side (call.Outcome c n) ∷ []) ≡ run terms steps }
+    ensures goes_on { (terms : Terms) (s : Step) (steps : List Step) → run terms (steps ++ s ∷ []) ≡ world_by terms (made_step s) (run terms steps) }
+    ensures events { (w : SideTerms) (s : EndStep) (x y : EndSide) → TellsOfNew w s x y }
 {}
 
 /// Where after the steps of a run both ends run, all that each emitted was delivered and nothing is unread, all that was
