@@ -1,25 +1,19 @@
 -- Worked values of runs in version 3.
-use Rattle.std.specs.Prelude.{ℕ, List, [], ◌∷◌, ◌++◌, length, drop, map, true, false, Some}
+use Rattle.std.specs.Prelude.{ℕ, ◌-◌, List, [], ◌∷◌, ◌++◌, length, take, drop, map, true, false, Some}
 use Rattle.std.proofs.Common.{◌≡◌, refl}
 use Rattle.wire_base.specs.declared.frame.Version.TheVariants as version
-use Rattle.wire_base.specs.declared.refusal.Refusal.TheVariants as refusal
 use Rattle.wire_base.specs.declared.state.Cause.TheVariants as cause
 use Rattle.mux_items.specs.declared.channel.ChannelKey.{ChannelKey}
-use Rattle.mux_items.specs.declared.channel.MuxEvent.TheVariants as happened
-use Rattle.mux_items.specs.Bodies.{Offer, Content, frame_on}
-use Rattle.mux_items.specs.Items.{Item, DidAccept, Got}
+use Rattle.mux_items.specs.Bodies.{Offer, Content, ChannelTerminated, frame_on}
+use Rattle.mux_items.specs.Items.{Item, DidAccept, DidRead, Got, End}
 use Rattle.mux_run.specs.Between.{ahead}
 use Rattle.mux_run.specs.Moments.{IsMoment}
 use Rattle.mux_run.specs.Run.{Terms, out, run}
-use Rattle.mux_run.specs.Answers.{answer}
 use Rattle.mux_run.specs.Spending.{RunStep, Makes, Spends, run_through}
 use Rattle.mux_run.specs.declared.steps.Side.TheVariants.{A, B}
 use Rattle.mux_items.specs.declared.call.Call.TheVariants as call
 use Rattle.mux_run.specs.declared.steps.Step.{Step}
 use Rattle.mux_run.specs.declared.steps.Step.TheVariants as step
-use Rattle.mux_run.specs.declared.answers.Reply.TheVariants as reply
-use Rattle.mux_run.specs.declared.answers.EndEvent.TheVariants as event
-use Rattle.mux_run.specs.declared.answers.DuoAnswer.TheVariants as duo
 
 -- the channel as A names it, and as B does
 abbrev at_a : ChannelKey
@@ -42,45 +36,46 @@ accepted = offer ∷ step.Deliver B 1000 ∷ step.Call B (call.Accept at_b 4) �
 abbrev wrote : List Step
 wrote = accepted ++ step.Call A (call.Write at_a (104 ∷ 101 ∷ 108 ∷ 108 ∷ 111 ∷ [])) ∷ []
 
-offer_answers : answer terms offer (run terms []) ≡ duo.Replied (reply.Made at_a) []
-offer_answers = refl
-
--- 4 bytes for the array, the code, the id and the origin, 2 for the head of the payload, and 4 for the payload
-offer_comes : answer terms (step.Deliver B 1000) (run terms (offer ∷ [])) ≡ duo.Delivered 10 (event.Mux (happened.Offered at_b) ∷ [])
-offer_comes = refl
-
-accept_comes : answer terms (step.Deliver A 1000) (run terms (offer ∷ step.Deliver B 1000 ∷ step.Call B (call.Accept at_b 4) ∷ [])) ≡ duo.Delivered 8 (event.Mux (happened.Accepted at_a) ∷ [])
-accept_comes = refl
-
--- a part of a frame is no event
-part_comes : answer terms (step.Deliver B 9) (run terms wrote) ≡ duo.Delivered 9 []
-part_comes = refl
-
-rest_comes : answer terms (step.Deliver B 1000) (run terms (wrote ++ step.Deliver B 9 ∷ [])) ≡ duo.Delivered 1 (event.Mux (happened.Content at_b 4) ∷ [])
-rest_comes = refl
-
-abbrev came : List Step
-came = wrote ++ step.Deliver B 1000 ∷ []
-
-reads_four : answer terms (step.Call B (call.Read at_b 100)) (run terms came) ≡ duo.Replied (reply.Bytes (104 ∷ 101 ∷ 108 ∷ 108 ∷ [])) []
-reads_four = refl
-
--- the acknowledgement lets the fifth byte go
-abbrev acknowledged : List Step
-acknowledged = came ++ step.Call B (call.Read at_b 100) ∷ step.Deliver A 1000 ∷ step.Deliver B 1000 ∷ []
-
-reads_one : answer terms (step.Call B (call.Read at_b 100)) (run terms acknowledged) ≡ duo.Replied (reply.Bytes (111 ∷ [])) []
-reads_one = refl
-
-other_channel : answer terms (step.Call B (call.Read at_a 100)) (run terms acknowledged) ≡ duo.Replied (reply.Refused refusal.NoChannel) []
-other_channel = refl
-
 -- the bytes that a step makes A emit, and B
 abbrev a_emits : Step → List Step → List ℕ
 a_emits s steps = drop (length (out version.Three [] (run terms steps).a.items)) (out version.Three [] (run terms (steps ++ s ∷ [])).a.items)
 
 abbrev b_emits : Step → List Step → List ℕ
 b_emits s steps = drop (length (out version.Three [] (run terms steps).b.items)) (out version.Three [] (run terms (steps ++ s ∷ [])).b.items)
+
+-- the items that a step makes A have, and B, newest first
+abbrev newer : (older items : List Item) → List Item
+newer older items = take (length items - length older) items
+
+abbrev a_adds : Step → List Step → List Item
+a_adds s steps = newer (run terms steps).a.items (run terms (steps ++ s ∷ [])).a.items
+
+abbrev b_adds : Step → List Step → List Item
+b_adds s steps = newer (run terms steps).b.items (run terms (steps ++ s ∷ [])).b.items
+
+-- 4 bytes for the array, the code, the id and the origin, 2 for the head of the payload, and 4 for the payload
+offer_comes : (run terms (offer ∷ step.Deliver B 1000 ∷ [])).b ≡ record { items = Got 0 at_b (Offer (97 ∷ []) (Some 8)) ∷ []; delivered = 10 }
+offer_comes = refl
+
+-- a part of a frame is no item
+part_adds : b_adds (step.Deliver B 9) wrote ≡ []
+part_adds = refl
+
+rest_adds : b_adds (step.Deliver B 1000) (wrote ++ step.Deliver B 9 ∷ []) ≡ Got 10 at_b (Content (104 ∷ 101 ∷ 108 ∷ 108 ∷ [])) ∷ []
+rest_adds = refl
+
+abbrev came : List Step
+came = wrote ++ step.Deliver B 1000 ∷ []
+
+-- the acknowledgement of what is read lets the fifth byte go
+abbrev read : Step
+read = step.Call B (call.Read at_b 100)
+
+read_emits : b_emits read came ≡ 0x94 ∷ 0x05 ∷ 0x01 ∷ 0xff ∷ 0xc4 ∷ 0x02 ∷ 0x91 ∷ 0x04 ∷ []
+read_emits = refl
+
+fifth_is_emitted : a_emits (step.Deliver A 1000) (came ++ read ∷ []) ≡ 0x94 ∷ 0x02 ∷ 0x01 ∷ 0x01 ∷ 0xc4 ∷ 0x01 ∷ 0x6f ∷ []
+fifth_is_emitted = refl
 
 -- two channels: what goes on the one leaves the window of the other
 
@@ -148,14 +143,14 @@ crossed = terminated ++ write_back ∷ []
 write_back_emits : b_emits write_back terminated ≡ 0x94 ∷ 0x02 ∷ 0x01 ∷ 0xff ∷ 0xc4 ∷ 0x01 ∷ 0x78 ∷ []
 write_back_emits = refl
 
-content_is_ignored : answer terms (step.Deliver A 1000) (run terms crossed) ≡ duo.Delivered 7 (event.Mux (happened.Ignored at_a) ∷ [])
-content_is_ignored = refl
-
 abbrev ignored : List Step
 ignored = crossed ++ step.Deliver A 1000 ∷ []
 
-closed_at_b : answer terms (step.Deliver B 1000) (run terms ignored) ≡ duo.Delivered 4 (event.Mux (happened.Closed at_b) ∷ [])
-closed_at_b = refl
+content_is_ignored : a_adds (step.Deliver A 1000) crossed ≡ Got 8 at_a (Content (0x78 ∷ [])) ∷ []
+content_is_ignored = refl
+
+ignoring_emits : a_emits (step.Deliver A 1000) crossed ≡ []
+ignoring_emits = refl
 
 closing_emits : b_emits (step.Deliver B 1000) ignored ≡ 0x93 ∷ 0x04 ∷ 0x01 ∷ 0xff ∷ []
 closing_emits = refl
@@ -163,10 +158,11 @@ closing_emits = refl
 abbrev closing : List Step
 closing = ignored ++ step.Deliver B 1000 ∷ []
 
-closed_at_a : answer terms (step.Deliver A 1000) (run terms closing) ≡ duo.Delivered 4 (event.Mux (happened.Closed at_a) ∷ [])
+closed_at_a : a_adds (step.Deliver A 1000) closing ≡ Got 15 at_a ChannelTerminated ∷ []
 closed_at_a = refl
 
-nothing_is_kept : answer terms (step.Call A (call.Write at_a (0 ∷ []))) (run terms (closing ++ step.Deliver A 1000 ∷ [])) ≡ duo.Replied (reply.Refused refusal.NoChannel) []
+-- a call on the closed channel is refused and changes nothing
+nothing_is_kept : a_adds write_first (closing ++ step.Deliver A 1000 ∷ []) ≡ []
 nothing_is_kept = refl
 
 -- both complete
@@ -186,51 +182,48 @@ completed = accepted ++ complete_a ∷ complete_b ∷ []
 complete_back_emits : b_emits complete_b (accepted ++ complete_a ∷ []) ≡ 0x93 ∷ 0x03 ∷ 0x01 ∷ 0xff ∷ []
 complete_back_emits = refl
 
-completed_at_b : answer terms (step.Deliver B 1000) (run terms completed) ≡ duo.Delivered 4 (event.Mux (happened.Completed at_b) ∷ [])
-completed_at_b = refl
-
 finished_emits : b_emits (step.Deliver B 1000) completed ≡ 0x93 ∷ 0x04 ∷ 0x01 ∷ 0xff ∷ []
 finished_emits = refl
 
 abbrev finished : List Step
 finished = completed ++ step.Deliver B 1000 ∷ []
 
-finished_at_a : answer terms (step.Deliver A 1000) (run terms finished) ≡ duo.Delivered 8 (event.Mux (happened.Completed at_a) ∷ event.Mux (happened.Closed at_a) ∷ [])
-finished_at_a = refl
-
 last_emits : a_emits (step.Deliver A 1000) finished ≡ 0x93 ∷ 0x04 ∷ 0x01 ∷ 0x01 ∷ []
 last_emits = refl
 
-finished_at_b : answer terms (step.Deliver B 1000) (run terms (finished ++ step.Deliver A 1000 ∷ [])) ≡ duo.Delivered 4 (event.Mux (happened.Closed at_b) ∷ [])
-finished_at_b = refl
+nothing_more : b_emits (step.Deliver B 1000) (finished ++ step.Deliver A 1000 ∷ []) ≡ []
+nothing_more = refl
 
--- A's stream ends: it then answers no call but reads, and no delivery
+-- A's stream ends: it then takes no call but reads, and no delivery
 
 abbrev ended : List Step
 ended = accepted ++ step.End A ∷ []
 
-end_answers : answer terms (step.End A) (run terms accepted) ≡ duo.Ended
-end_answers = refl
+end_adds : a_adds (step.End A) accepted ≡ End cause.InputEnded ∷ []
+end_adds = refl
 
-nothing_is_delivered : answer terms (step.Deliver A 1000) (run terms (ended ++ write_back ∷ [])) ≡ duo.Delivered 0 []
+nothing_is_delivered : a_adds (step.Deliver A 1000) (ended ++ write_back ∷ []) ≡ []
 nothing_is_delivered = refl
 
-write_is_refused : answer terms write_first (run terms ended) ≡ duo.Replied (reply.Refused (refusal.Ended cause.InputEnded)) []
+write_is_refused : a_adds write_first ended ≡ []
 write_is_refused = refl
 
-read_is_answered : answer terms (step.Call A (call.Read at_a 5)) (run terms ended) ≡ duo.Replied (reply.Bytes []) []
-read_is_answered = refl
+read_is_taken : a_adds (step.Call A (call.Read at_a 5)) ended ≡ DidRead at_a 5 ∷ []
+read_is_taken = refl
 
--- B is spent with four unread bytes: it answers reads alone and gets nothing more
+-- B is spent with four unread bytes, and an offer on its way: it takes reads alone and gets nothing more
 
 abbrev spent : List RunStep
-spent = map Makes came ++ Spends B ∷ []
+spent = map Makes came ++ Makes offer ∷ Spends B ∷ []
 
-spent_is_refused : answer terms write_back (run_through terms spent) ≡ duo.Replied (reply.Refused (refusal.Ended cause.Spent)) []
+abbrev spent_adds : Step → List Item
+spent_adds s = newer (run_through terms spent).b.items (run_through terms (spent ++ Makes s ∷ [])).b.items
+
+spent_is_refused : spent_adds write_back ≡ []
 spent_is_refused = refl
 
-spent_is_read : answer terms (step.Call B (call.Read at_b 100)) (run_through terms spent) ≡ duo.Replied (reply.Bytes (104 ∷ 101 ∷ 108 ∷ 108 ∷ [])) []
+spent_is_read : spent_adds read ≡ DidRead at_b 100 ∷ []
 spent_is_read = refl
 
-spent_gets_nothing : answer terms (step.Deliver B 1000) (run_through terms (spent ++ Makes (step.Call A (call.Complete at_a)) ∷ [])) ≡ duo.Delivered 0 []
+spent_gets_nothing : spent_adds (step.Deliver B 1000) ≡ []
 spent_gets_nothing = refl

@@ -5,5 +5,4 @@ pub mod Linked
 pub mod Cuts
 pub mod Fed
 pub mod Safe
-pub mod Answers
 pub mod Spending
