@@ -4,6 +4,10 @@ pub mod HexWords
 pub mod Fronts
 pub mod Splits
 pub mod Values
+pub mod Signs
+pub mod Choices
+pub mod Naturals
+pub mod ArgumentLists
 pub mod Texts
 pub mod FormLaws
 pub mod Joined

@@ -39,7 +39,8 @@ number_in-some word n h =
     let v = p.2 in
     (grind (arith, nat_tests), rw v at same)
 
-none_or_some : (o : Option ℕ) → ((n : ℕ) → o ≡ Some n → ⊥) → o ≡ None
+-- what has no value
+pub none_or_some : (o : Option ℕ) → ((n : ℕ) → o ≡ Some n → ⊥) → o ≡ None
 none_or_some None h = refl
 none_or_some (Some n) h = absurd (h n refl)
 

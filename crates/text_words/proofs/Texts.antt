@@ -13,11 +13,17 @@ use Rattle.std.proofs.lemmas.Str.{is_utf8-from_IsUtf8, IsUtf8-from_ascii}
 use Rattle.std.proofs.lemmas.Str.Ascii.{IsAscii-nil, IsAscii-cons}
 use Rattle.std.proofs.lemmas.Str.Parse.{digit_from_value}
 use Rattle.hex.specs.Hex.{encode_lower, encode_with, lower_digits}
+use Rattle.message_body.specs.declared.encoding.Encoding.{Encoding}
+use Rattle.message_body.specs.declared.encoding.Encoding.TheVariants as encoding
+use Rattle.message_framing.specs.declared.framing.Framing.{Framing}
+use Rattle.message_framing.specs.declared.framing.Framing.TheVariants as framing
 use Rattle.mux_run.specs.declared.steps.Side.{Side}
 use Rattle.mux_run.specs.declared.steps.Side.TheVariants.{A, B}
+use Rattle.rpc_items.specs.declared.calls.Expect.{Expect}
+use Rattle.rpc_items.specs.declared.calls.Expect.TheVariants as expect
 use Rattle.text_words.specs.declared.channel_name.ChannelName.{ChannelName}
 use Rattle.text_words.specs.Bytes.{space}
-use Rattle.text_words.specs.Written.{side_word, channel_word, name_word, bytes_word, count_word, hyphen, everything, is_number, is_name, is_byte, is_text_word, stands_in_word}
+use Rattle.text_words.specs.Written.{side_word, channel_word, name_word, bytes_word, count_word, framing_word, encoding_word, expect_word, Signed, signed_word, hyphen, everything, is_number, is_name, is_byte, is_text_word, stands_in_word}
 use Rattle.text_words.specs.Reading.{decimal_base}
 use Rattle.text_words.proofs.ByteTests.{tested, and_true}
 use Rattle.text_words.proofs.Numbers.{own}
@@ -107,3 +113,31 @@ text_bytes bs h = visible_word (bytes_word bs) (visible_bytes bs h)
 
 pub text_count : (n : ℕ) → (is_number n || eqb n everything) ≡ true → is_text_word (count_word n) ≡ true
 text_count n h = visible_word (count_word n) (visible_count n h)
+
+visible_framing : (x : Framing) → is_visible_word (framing_word x) ≡ true
+visible_framing framing.Header = refl
+visible_framing framing.Length = refl
+
+pub text_framing : (x : Framing) → is_text_word (framing_word x) ≡ true
+text_framing x = visible_word (framing_word x) (visible_framing x)
+
+visible_encoding : (x : Encoding) → is_visible_word (encoding_word x) ≡ true
+visible_encoding encoding.Json = refl
+visible_encoding encoding.Pack = refl
+
+pub text_encoding : (x : Encoding) → is_text_word (encoding_word x) ≡ true
+text_encoding x = visible_word (encoding_word x) (visible_encoding x)
+
+visible_expect : (x : Expect) → is_visible_word (expect_word x) ≡ true
+visible_expect expect.Plain = refl
+visible_expect expect.Sequence = refl
+
+pub text_expect : (x : Expect) → is_text_word (expect_word x) ≡ true
+text_expect x = visible_word (expect_word x) (visible_expect x)
+
+visible_signed : (negative : Bool) (size : ℕ) → is_number size ≡ true → is_visible_word (signed_word (record { negative = negative; size = size })) ≡ true
+visible_signed true size h = visible_decimal size h
+visible_signed false size h = visible_decimal size h
+
+pub text_signed : (x : Signed) → is_number x.size ≡ true → is_text_word (signed_word x) ≡ true
+text_signed x h = visible_word (signed_word x) (visible_signed x.negative x.size h)

@@ -1,5 +1,5 @@
 -- The values of words: what is written is read, and what is read is written so.
-use Rattle.std.proofs.Common.{◌≡◌, ℕ, zero, suc, ◌<◌, Bool, true, false, cond, eqb, eqb-true, leb, not, ◌||◌, ◌&&◌, ◌⊎◌, inl, inr, List, [], ◌∷◌, ◌++◌, length, refl, Some, None, sym, ap, subst, codes, arith}
+use Rattle.std.proofs.Common.{◌≡◌, ℕ, zero, suc, ◌<◌, Bool, true, false, cond, eqb, eqb-true, leb, not, ◌||◌, ◌&&◌, inl, inr, List, [], ◌∷◌, ◌++◌, length, refl, Some, None, sym, ap, subst, codes, arith}
 use Rattle.std.specs.Fmt.{decimal, digits}
 use Rattle.std.specs.List.{list_all}
 use Rattle.std.specs.Str.{bytes_eq}
@@ -14,6 +14,7 @@ use Rattle.text_words.specs.declared.channel_name.ChannelName.{ChannelName}
 use Rattle.text_words.specs.Written.{side_word, channel_word, name_word, bytes_word, count_word, hyphen, everything, number_bound, is_number, is_name, is_byte, nonce_size, is_nonce, is_text_word}
 use Rattle.text_words.specs.Reading.{side_in, front_in, number_in, number_up_to, channel_in, name_in, bytes_in, byte_in, only_byte, nonce_in, count_in}
 use Rattle.text_words.proofs.ByteTests.{tested, not_true, same_from_bytes_eq, and_true, chosen}
+use Rattle.text_words.proofs.Choices.{chosen_of_two}
 use Rattle.text_words.proofs.Numbers.{number_in-decimal, number_in-some}
 use Rattle.text_words.proofs.HexWords.{bytes_in-written, bytes_in-some}
 
@@ -92,17 +93,9 @@ count_in-word n h = elim (tested (eqb n everything)) [
 
 -- ---- what is read is written so
 
-chosen_side : (b d : Bool) (s : Side) → cond b (Some A) (cond d (Some B) None) ≡ Some s → ((b ≡ true) × (A ≡ s)) ⊎ ((d ≡ true) × (B ≡ s))
-chosen_side true d s h = inl (refl, cc)
-chosen_side false true s h = inr (refl, cc)
-chosen_side false false s h = cc h
-
 pub side_in-some : (w : List ℕ) (s : Side) → side_in w ≡ Some s → side_word s ≡ w
 unfolding side_in
-side_in-some w s h = elim (chosen_side (bytes_eq w (codes "A")) (bytes_eq w (codes "B")) s h) [
-  | inl p ↦ rw (← p.1) (sym (same_from_bytes_eq w (codes "A") p.0))
-  | inr p ↦ rw (← p.1) (sym (same_from_bytes_eq w (codes "B") p.0))
-]
+side_in-some w s h = chosen_of_two side_word w A B s _ _ refl refl h
 
 is_number-below : (n : ℕ) → n < number_bound → is_number n ≡ true
 is_number-below n h = grind (arith, nat_tests)

@@ -12,6 +12,9 @@ line_feed_byte = 10
 abbrev pub plus : ℕ
 plus = 43
 
+abbrev pub minus : ℕ
+minus = 45
+
 abbrev pub zero_digit : ℕ
 zero_digit = 48
 

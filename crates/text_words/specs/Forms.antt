@@ -1,12 +1,17 @@
 -- The forms of words: what a word of a form stands for, how it is written, and what it is read as.
-use Rattle.std.specs.Prelude.{ℕ, nat_le, ◌==◌, List, [], ◌∷◌, Bool, true, ◌&&◌, ◌||◌, Option, Some, None, decimal}
+use Rattle.std.specs.Prelude.{ℕ, nat_le, ◌==◌, List, [], ◌∷◌, Bool, true, ◌&&◌, ◌||◌, Option, Some, None, is_some, option_map, decimal}
 use Rattle.std.specs.List.{list_all}
+use Rattle.message_body.specs.declared.encoding.Encoding.{Encoding}
+use Rattle.message_framing.specs.declared.framing.Framing.{Framing}
 use Rattle.mux_run.specs.declared.steps.Side.{Side}
+use Rattle.rpc_items.specs.declared.calls.Expect.{Expect}
 use Rattle.text_words.specs.declared.channel_name.ChannelName.{ChannelName}
-use Rattle.text_words.specs.Written.{side_word, channel_word, name_word, bytes_word, count_word, everything, is_number, is_name, is_byte, is_nonce}
-use Rattle.text_words.specs.Reading.{◌>>=◌, side_in, channel_in, name_in, number_up_to, number_in, bytes_in, byte_in, nonce_in, count_in}
+use Rattle.text_words.specs.Written.{side_word, channel_word, name_word, bytes_word, count_word, framing_word, encoding_word, expect_word, Signed, signed_word, everything, is_number, is_name, is_byte, is_nonce, is_method, is_text_word}
+use Rattle.text_words.specs.Reading.{◌>>=◌, side_in, channel_in, name_in, number_up_to, number_in, bytes_in, byte_in, nonce_in, count_in, framing_in, encoding_in, expect_in, method_in, signed_in}
+use Rattle.text_words.specs.Json.{json_id_in}
 
--- `limited` is a number of at most this limit, `count` a number or all that is there
+-- `limited` is a number of at most this limit, `count` a number or all that is there, `json_id` an id as JSON, which has more than one
+-- text and therefore stands for its text
 pub data Form : Type 0 where
   side : Form
   channel : Form
@@ -17,6 +22,12 @@ pub data Form : Type 0 where
   byte : Form
   nonce : Form
   count : Form
+  framing : Form
+  encoding : Form
+  expect : Form
+  method : Form
+  signed : Form
+  json_id : Form
 
 -- what a word of the form stands for
 abbrev pub FormValue : Form → Type 0
@@ -29,6 +40,12 @@ FormValue bytes = List ℕ
 FormValue byte = ℕ
 FormValue nonce = List ℕ
 FormValue count = ℕ
+FormValue framing = Framing
+FormValue encoding = Encoding
+FormValue expect = Expect
+FormValue method = List ℕ
+FormValue signed = Signed
+FormValue json_id = List ℕ
 
 -- the word of a value
 abbrev pub write_form : (f : Form) → FormValue f → List ℕ
@@ -41,6 +58,12 @@ write_form bytes x = bytes_word x
 write_form byte x = bytes_word (x ∷ [])
 write_form nonce x = bytes_word x
 write_form count x = count_word x
+write_form framing x = framing_word x
+write_form encoding x = encoding_word x
+write_form expect x = expect_word x
+write_form method x = x
+write_form signed x = signed_word x
+write_form json_id x = x
 
 -- the value of a word, if it has the form
 abbrev pub read_form : (f : Form) → List ℕ → Option (FormValue f)
@@ -53,6 +76,12 @@ read_form bytes word = bytes_in word
 read_form byte word = byte_in word
 read_form nonce word = nonce_in word
 read_form count word = count_in word
+read_form framing word = framing_in word
+read_form encoding word = encoding_in word
+read_form expect word = expect_in word
+read_form method word = method_in word
+read_form signed word = signed_in word
+read_form json_id word = option_map (λ _. word) (json_id_in word)
 
 -- a value that has a word
 abbrev pub is_value : (f : Form) → FormValue f → Bool
@@ -65,6 +94,12 @@ is_value bytes x = list_all is_byte x
 is_value byte x = is_byte x
 is_value nonce x = is_nonce x
 is_value count x = is_number x || x == everything
+is_value framing x = true
+is_value encoding x = true
+is_value expect x = true
+is_value method x = is_method x
+is_value signed x = is_number x.size
+is_value json_id x = is_text_word x && is_some (json_id_in x)
 
 -- a value for each of these forms
 abbrev pub FormValues : List Form → Type 0
@@ -76,15 +111,14 @@ abbrev pub write_forms : (fs : List Form) → FormValues fs → List (List ℕ)
 write_forms [] xs = []
 write_forms (f ∷ fs) xs = write_form f xs.0 ∷ write_forms fs xs.1
 
--- the values of words, if they are as many and have these forms
-abbrev pub read_forms : (fs : List Form) → List (List ℕ) → Option (FormValues fs)
-read_forms [] [] = Some tt
-read_forms [] (word ∷ words) = None
-read_forms (f ∷ fs) [] = None
-read_forms (f ∷ fs) (word ∷ words) = do
+-- the values of the first words, if there are as many and they have these forms, and the words behind them
+abbrev pub read_front : (fs : List Form) → List (List ℕ) → Option (FormValues fs × List (List ℕ))
+read_front [] words = Some (tt, words)
+read_front (f ∷ fs) [] = None
+read_front (f ∷ fs) (word ∷ words) = do
   x ← read_form f word
-  xs ← read_forms fs words
-  Some (x, xs)
+  front ← read_front fs words
+  Some ((x, front.0), front.1)
 
 -- values that have words
 abbrev pub are_values : (fs : List Form) → FormValues fs → Bool

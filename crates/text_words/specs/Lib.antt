@@ -1,4 +1,5 @@
 pub mod Bytes
 pub mod Written
 pub mod Reading
+pub mod Json
 pub mod Forms

@@ -1,5 +1,5 @@
 -- What a word of a script is read as.
-use Rattle.std.specs.Prelude.{ℕ, nat_lt, nat_le, ◌==◌, List, [], ◌∷◌, Bool, ◌||◌, ◌&&◌, length, slice_index, Option, Some, None, option_and_then, if◌then◌else◌, codes, decimal}
+use Rattle.std.specs.Prelude.{ℕ, nat_lt, nat_le, ◌==◌, List, [], ◌∷◌, Bool, true, false, ◌||◌, ◌&&◌, length, slice_index, Option, Some, None, option_and_then, if◌then◌else◌, codes, decimal}
 use Rattle.std.specs.List.{slice_split}
 use Rattle.std.specs.Result.{result_ok}
 use Rattle.std.specs.Str.{bytes_eq}
@@ -7,9 +7,15 @@ use Rattle.std.specs.Str.Parse.{digits_value}
 use Rattle.hex.specs.Hex.{decode_of}
 use Rattle.mux_run.specs.declared.steps.Side.{Side}
 use Rattle.mux_run.specs.declared.steps.Side.TheVariants.{A, B}
+use Rattle.message_body.specs.declared.encoding.Encoding.{Encoding}
+use Rattle.message_body.specs.declared.encoding.Encoding.TheVariants as encoding
+use Rattle.message_framing.specs.declared.framing.Framing.{Framing}
+use Rattle.message_framing.specs.declared.framing.Framing.TheVariants as framing
+use Rattle.rpc_items.specs.declared.calls.Expect.{Expect}
+use Rattle.rpc_items.specs.declared.calls.Expect.TheVariants as expect
 use Rattle.text_words.specs.declared.channel_name.ChannelName.{ChannelName}
-use Rattle.text_words.specs.Bytes.{space, plus, zero_digit, capital_a, capital_z}
-use Rattle.text_words.specs.Written.{is_number, hyphen, bytes_word, everything, nonce_size}
+use Rattle.text_words.specs.Bytes.{space, plus, minus, zero_digit, capital_a, capital_z}
+use Rattle.text_words.specs.Written.{is_number, hyphen, bytes_word, everything, nonce_size, framing_word, encoding_word, expect_word, Signed}
 
 -- what the next part makes of the value, where there is one
 infixl 10 ◌>>=◌
@@ -89,3 +95,38 @@ is_capital b = nat_le capital_a b && nat_le b capital_z
 -- a number, or the greatest count of its type
 unfoldable pub count_in : List ℕ → Option ℕ
 count_in word = if bytes_eq word (codes "all") then Some everything else number_in word
+
+-- how messages are framed
+unfoldable pub framing_in : List ℕ → Option Framing
+framing_in word =
+    if bytes_eq word (framing_word framing.Header) then Some framing.Header
+    else if bytes_eq word (framing_word framing.Length) then Some framing.Length
+    else None
+
+-- how their bodies are written
+unfoldable pub encoding_in : List ℕ → Option Encoding
+encoding_in word =
+    if bytes_eq word (encoding_word encoding.Json) then Some encoding.Json
+    else if bytes_eq word (encoding_word encoding.Pack) then Some encoding.Pack
+    else None
+
+-- what is made of a result
+unfoldable pub expect_in : List ℕ → Option Expect
+expect_in word =
+    if bytes_eq word (expect_word expect.Plain) then Some expect.Plain
+    else if bytes_eq word (expect_word expect.Sequence) then Some expect.Sequence
+    else None
+
+-- any word but the empty one
+unfoldable pub method_in : List ℕ → Option (List ℕ)
+method_in word = if bytes_eq word [] then None else Some word
+
+abbrev pub with_sign : Bool → List ℕ → Option Signed
+with_sign negative digits = do
+  size ← number_in digits
+  Some (record { negative = negative; size = size })
+
+-- a number, behind a minus where it has that sign
+unfoldable pub signed_in : List ℕ → Option Signed
+signed_in [] = None
+signed_in (first ∷ digits) = if first == minus then with_sign true digits else with_sign false (first ∷ digits)

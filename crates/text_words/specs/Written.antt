@@ -1,5 +1,5 @@
 -- How the words of scripts and reports are written.
-use Rattle.std.specs.Prelude.{ℕ, ◌-◌, ◌^◌, ◌==◌, nat_lt, List, [], ◌∷◌, ◌++◌, Bool, true, false, not, ◌&&◌, ◌||◌, if◌then◌else◌, codes, decimal, length}
+use Rattle.std.specs.Prelude.{ℕ, ℤ, pos, neg_ℤ, ◌-◌, ◌^◌, ◌==◌, nat_lt, List, [], ◌∷◌, ◌++◌, Bool, true, false, not, ◌&&◌, ◌||◌, if◌then◌else◌, codes, decimal, length}
 use Rattle.std.specs.List.{list_all}
 use Rattle.std.specs.Str.{is_utf8, bytes_eq}
 use Rattle.hex.specs.Hex.{encode_lower}
@@ -7,6 +7,12 @@ use Rattle.mux_items.specs.declared.channel.ChannelKey.{ChannelKey}
 use Rattle.mux_run.specs.declared.steps.Side.{Side}
 use Rattle.mux_run.specs.declared.steps.Side.TheVariants.{A, B}
 use Rattle.text_words.specs.declared.channel_name.ChannelName.{ChannelName}
+use Rattle.message_body.specs.declared.encoding.Encoding.{Encoding}
+use Rattle.message_body.specs.declared.encoding.Encoding.TheVariants as encoding
+use Rattle.message_framing.specs.declared.framing.Framing.{Framing}
+use Rattle.message_framing.specs.declared.framing.Framing.TheVariants as framing
+use Rattle.rpc_items.specs.declared.calls.Expect.{Expect}
+use Rattle.rpc_items.specs.declared.calls.Expect.TheVariants as expect
 use Rattle.text_words.specs.Bytes.{space, line_feed_byte}
 
 -- the letter of a side
@@ -59,6 +65,33 @@ everything = 2 ^ 64 - 1
 abbrev pub count_word : ℕ → List ℕ
 count_word count = if count == everything then codes "all" else decimal count
 
+-- how the messages of a connection are framed
+abbrev pub framing_word : Framing → List ℕ
+framing_word framing.Header = codes "header"
+framing_word framing.Length = codes "length"
+
+-- how their bodies are written
+abbrev pub encoding_word : Encoding → List ℕ
+encoding_word encoding.Json = codes "json"
+encoding_word encoding.Pack = codes "pack"
+
+-- what is made of the result of a request
+abbrev pub expect_word : Expect → List ℕ
+expect_word expect.Plain = codes "plain"
+expect_word expect.Sequence = codes "sequence"
+
+-- a number with a sign, as it is written: the code of an error
+pub record Signed : Type 0 where
+  pub negative : Bool
+  pub size : ℕ
+
+abbrev pub signed_word : Signed → List ℕ
+signed_word n = if n.negative then codes "-" ++ decimal n.size else decimal n.size
+
+-- the number that it is; the sign of 0 says nothing
+abbrev pub signed_value : Signed → ℤ
+signed_value n = if n.negative then neg_ℤ (pos n.size) else pos n.size
+
 -- the text that ends a line
 abbrev pub line_feed : List ℕ
 line_feed = line_feed_byte ∷ []
@@ -86,6 +119,10 @@ is_line_text text = is_utf8 text && list_all stands_in_line text
 -- a text that is one word or empty
 abbrev pub is_text_word : List ℕ → Bool
 is_text_word word = is_utf8 word && list_all stands_in_word word
+
+-- a word that isn't empty
+abbrev pub is_method : List ℕ → Bool
+is_method word = is_text_word word && not (bytes_eq word [])
 
 -- a name that a word can be: a text that is one word or empty, and not the hyphen
 abbrev pub is_name : List ℕ → Bool

@@ -2,15 +2,18 @@
 #![tactic(auto)]
 
 mod channel_name;
+mod json_texts;
 mod laws;
 mod push;
 mod read;
 
 pub use channel_name::{ChannelName, other_side};
+pub use json_texts::{arguments, json, json_id, string};
 pub use laws::words_are_read_as_written;
 pub use push::{
     push_bytes, push_channel, push_decimal, push_hex, push_line_feed, push_side, push_text,
 };
 pub use read::{
-    NONCE_SIZE, byte, bytes, channel, count, limited_number, name, nonce, number, side, words,
+    NONCE_SIZE, byte, bytes, channel, count, encoding, expect, framing, limited_number, method,
+    name, nonce, number, side, signed, words,
 };

@@ -3,11 +3,15 @@
 ghost use Rattle.std.specs.Prelude.{◌≡◌, map, IfOk, Some, None};
 ghost use Rattle.std.specs.Option.{option_map};
 ghost use Rattle.std.specs.List.{list_any};
-ghost use Rattle.text_words.specs.Reading.{words_of, side_in, number_in, number_up_to, channel_in, name_in, bytes_in, byte_in, nonce_in, count_in, has_other_front, front_in, is_capital};
+ghost use Rattle.text_words.specs.Reading.{words_of, side_in, number_in, number_up_to, channel_in, name_in, bytes_in, byte_in, nonce_in, count_in, has_other_front, front_in, is_capital, framing_in, encoding_in, expect_in, method_in, signed_in};
+ghost use Rattle.text_words.specs.Written.{signed_value};
 
 use crate::channel_name::ChannelName;
 use hex::FromHexError;
+use message_body::Encoding;
+use message_framing::Framing;
 use mux_run::Side;
+use rpc_items::Expect;
 use std::alloc::Global;
 use wire_base::{Blob, OutOfMemory, Text};
 
@@ -149,5 +153,63 @@ pub fn count(word: &str) -> Option<u64>
     match word {
         "all" => Some(u64::MAX),
         _ => number(word).map(|n| u64::from(n)),
+    }
+}
+
+/// How the messages of a connection are framed.
+#[tactic(auto, unfolding(crate::specs::Reading::framing_in))]
+pub fn framing(word: &str) -> Option<Framing>
+    ensures { result ≡ framing_in word.now }
+{
+    match word {
+        "header" => Some(Framing::Header),
+        "length" => Some(Framing::Length),
+        _ => None,
+    }
+}
+
+/// How their bodies are written.
+#[tactic(auto, unfolding(crate::specs::Reading::encoding_in))]
+pub fn encoding(word: &str) -> Option<Encoding>
+    ensures { result ≡ encoding_in word.now }
+{
+    match word {
+        "json" => Some(Encoding::Json),
+        "pack" => Some(Encoding::Pack),
+        _ => None,
+    }
+}
+
+/// What is made of the result of a request.
+#[tactic(auto, unfolding(crate::specs::Reading::expect_in))]
+pub fn expect(word: &str) -> Option<Expect>
+    ensures { result ≡ expect_in word.now }
+{
+    match word {
+        "plain" => Some(Expect::Plain),
+        "sequence" => Some(Expect::Sequence),
+        _ => None,
+    }
+}
+
+/// Any word but the empty one.
+#[tactic(auto, unfolding(crate::specs::Reading::method_in))]
+pub fn method(alloc: Global, word: &str) -> Result<Option<Text>, OutOfMemory>
+    ensures { IfOk result (λ o. o ≡ method_in word.now) }
+{
+    if word.is_empty() {
+        return Ok(None);
+    }
+    Ok(Some(Text::from_str(alloc, word)?))
+}
+
+/// A number, behind a minus where it has that sign. The sign of 0 says nothing.
+#[tactic(auto, unfolding(crate::specs::Reading::signed_in))]
+pub fn signed(word: &str) -> Option<i64>
+    ensures { result ≡ option_map signed_value (signed_in word.now) }
+{
+    match word.strip_prefix('-') {
+        Some(digits) => Some(-i64::from(number(digits)?)),
+        None => Some(i64::from(number(word)?)),
     }
 }
