@@ -40,7 +40,7 @@ use Rattle.endpoint_items.specs.Items.{EndItem, Mux, GotMessage, RefusedMessage,
 use Rattle.endpoint_items.specs.Layers.{mux_of, rpc_of}
 use Rattle.endpoint_items.proofs.Usable.{running_none}
 use Rattle.endpoint.specs.declared.attached.Attached.{Attached}
-use Rattle.endpoint.specs.declared.step.EndEvent.TheVariants as event
+use Rattle.endpoint_items.specs.declared.event.EndEvent.TheVariants as event
 use Rattle.endpoint.specs.declared.step.EndStep.{EndStep}
 use Rattle.endpoint.specs.declared.step.EndStep.TheVariants as step
 use Rattle.endpoint.specs.Changes.{Moves}

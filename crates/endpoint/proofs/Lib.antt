@@ -19,3 +19,4 @@ pub mod Calling
 pub mod Ending
 pub mod Using
 pub mod InTurn
+pub mod Applied

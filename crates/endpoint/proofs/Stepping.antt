@@ -23,7 +23,7 @@ use Rattle.endpoint_items.specs.Bytes.{consumed, rest_of}
 use Rattle.endpoint_items.specs.Items.{EndItem, Mux, attached_keys, terms_of}
 use Rattle.endpoint_items.specs.Layers.{mux_of, rpc_of}
 use Rattle.endpoint.specs.declared.attached.Attached.{Attached}
-use Rattle.endpoint.specs.declared.step.EndEvent.TheVariants as event
+use Rattle.endpoint_items.specs.declared.event.EndEvent.TheVariants as event
 use Rattle.endpoint.specs.declared.step.EndStep.{EndStep}
 use Rattle.endpoint.specs.declared.step.EndStep.TheVariants as step
 use Rattle.endpoint.specs.Changes.{each_ended}

@@ -7,3 +7,4 @@ pub mod Steps
 pub mod Calls
 pub mod Refusing
 pub mod Beginning
+pub mod Applied

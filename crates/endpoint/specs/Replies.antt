@@ -25,7 +25,7 @@ use Rattle.endpoint_items.specs.Items.{EndItem, Mux, GotMessage, RefusedMessage}
 use Rattle.endpoint_items.specs.Connections.{was_attached, items_of}
 use Rattle.endpoint_items.specs.Layers.{mux_of, rpc_of}
 use Rattle.endpoint_items.specs.Calls.{EndCall, OfConnection, call_refusal, is_spent_on, item_of}
-use Rattle.endpoint.specs.declared.step.EndEvent.TheVariants as event
+use Rattle.endpoint_items.specs.declared.event.EndEvent.TheVariants as event
 use Rattle.endpoint.specs.declared.step.EndStep.{EndStep}
 use Rattle.endpoint.specs.declared.step.EndStep.TheVariants as step
 use Rattle.endpoint.specs.Stands.{Stands}

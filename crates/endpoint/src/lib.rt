@@ -4,6 +4,7 @@
 mod arriving;
 mod attached;
 mod attaching;
+mod call;
 mod endpoint;
 mod following;
 mod messages;
@@ -12,12 +13,13 @@ mod rpc_calls;
 mod step;
 
 pub use endpoint::Endpoint;
+pub use endpoint_items::{Call, EndEvent, Reply};
 pub use mux_end::{ChannelKey, ChannelView, MuxEvent, Phase, Tally};
 pub use rpc_end::{
     Answer, Arg, ArgList, Arguments, Encoding, Expect, Framing, HandleKey, Lifetime, Look, Outcome,
     Params, RpcEvent, Target,
 };
-pub use step::{EndEvent, EndStep};
+pub use step::EndStep;
 
 #[cfg(test)]
 mod tests;

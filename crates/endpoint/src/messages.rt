@@ -21,7 +21,8 @@ ghost use Rattle.std.specs.Prelude.{◌≡◌, ◌<◌, IfOk, List, None, OnOk, 
 
 use crate::endpoint::Endpoint;
 use crate::following::{complete, read_all, terminate, write};
-use crate::step::{EndEvent, EndStep};
+use crate::step::EndStep;
+use endpoint_items::EndEvent;
 use mux_end::{ChannelKey, MuxEvent};
 use rpc_end::{RpcEvent, RpcStep};
 use wire_base::{Cause, EndState, OutOfMemory};

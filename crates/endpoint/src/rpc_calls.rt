@@ -94,7 +94,7 @@ impl Endpoint {
     }
 
     /// Where the connection of a channel stands, ended or not; a call of another channel is refused.
-    fn check_attached(&self, key: ChannelKey) -> Result<usize, CallFault>
+    pub(crate) fn check_attached(&self, key: ChannelKey) -> Result<usize, CallFault>
         ensures { result ≡ attached_place self.now.state (position (λ attached. same_key key attached.key) self.now.connections) }
     {
         self.check_stopped()?;

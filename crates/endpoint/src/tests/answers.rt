@@ -1,11 +1,11 @@
 //! What an end answers, as text. A channel is told by the letter of the side that offered it and its id.
 
 use crate::{
-    ChannelKey, ChannelView, EndEvent, EndStep, Look, MuxEvent, Outcome, Params, RpcEvent, Tally,
+    ChannelKey, ChannelView, EndEvent, EndStep, MuxEvent, Outcome, Params, Reply, RpcEvent, Tally,
 };
 use std::alloc::Global;
 use std::test::Fail;
-use wire_base::{CallFault, Cause, Datum, EndState, Id, Node};
+use wire_base::{Cause, Datum, EndState, Id, Node};
 
 pub fn word(alloc: Global, word: &str) -> Result<String, Fail> {
     Ok(String::from_str(alloc, word)?)
@@ -24,47 +24,21 @@ pub fn of_key(alloc: Global, side: &str, key: ChannelKey) -> Result<String, Fail
     Ok(format!(in alloc; "{offerer}{}", key.id)?)
 }
 
-fn of_fault(alloc: Global, fault: CallFault) -> Result<String, Fail> {
-    match fault {
-        CallFault::Refused(refusal) => Ok(format!(in alloc; "{refusal:?}")?),
-        CallFault::OutOfMemory => word(alloc, "OutOfMemory"),
-    }
-}
-
-pub fn of_call(alloc: Global, answer: Result<(), CallFault>) -> Result<String, Fail> {
-    match answer {
-        Ok(()) => word(alloc, "ok"),
-        Err(fault) => of_fault(alloc, fault),
-    }
-}
-
-pub fn of_drawn(alloc: Global, answer: Result<u64, CallFault>) -> Result<String, Fail> {
-    match answer {
-        Ok(n) => Ok(format!(in alloc; "{n}")?),
-        Err(fault) => of_fault(alloc, fault),
-    }
-}
-
-pub fn of_offer(
-    alloc: Global,
-    side: &str,
-    answer: Result<ChannelKey, CallFault>,
-) -> Result<String, Fail> {
-    match answer {
-        Ok(key) => of_key(alloc, side, key),
-        Err(fault) => of_fault(alloc, fault),
-    }
-}
-
 /// The count of bytes that were read, and the bytes.
-pub fn of_read(
-    alloc: Global,
-    answer: Result<usize, CallFault>,
-    bytes: &[u8],
-) -> Result<String, Fail> {
-    match answer {
-        Ok(count) => Ok(format!(in alloc; "{count} {bytes:?}")?),
-        Err(fault) => of_fault(alloc, fault),
+fn of_bytes(alloc: Global, bytes: &[u8]) -> Result<String, Fail> {
+    Ok(format!(in alloc; "{} {bytes:?}", bytes.len())?)
+}
+
+pub fn of_reply(alloc: Global, side: &str, reply: &Reply) -> Result<String, Fail> {
+    match reply {
+        Reply::Done => word(alloc, "ok"),
+        Reply::Made(key) => of_key(alloc, side, *key),
+        Reply::Bytes(bytes) => of_bytes(alloc, bytes.as_bytes()),
+        Reply::Number(n) => Ok(format!(in alloc; "{n}")?),
+        Reply::Known(outcome) => of_outcome(alloc, outcome),
+        Reply::NotYet => word(alloc, "not yet"),
+        Reply::Refused(refusal) => Ok(format!(in alloc; "{refusal:?}")?),
+        Reply::OutOfMemory => word(alloc, "OutOfMemory"),
     }
 }
 
@@ -200,13 +174,5 @@ fn of_outcome(alloc: Global, outcome: &Outcome) -> Result<String, Fail> {
         }
         Outcome::Lost => word(alloc, "lost"),
         Outcome::Starved => word(alloc, "starved"),
-    }
-}
-
-pub fn of_look(alloc: Global, look: Look<'_>) -> Result<String, Fail> {
-    match look {
-        Look::Known(outcome) => of_outcome(alloc, outcome),
-        Look::NotYet => word(alloc, "not yet"),
-        Look::NoRequest => word(alloc, "no request"),
     }
 }

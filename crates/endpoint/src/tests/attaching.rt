@@ -94,8 +94,8 @@ fn channels_without_a_connection_make_no_calls(rt: HostRuntime) -> Result<(), Fa
         A tells A1 log   | NotAttached
         A answers A1 1 5 | NotAttached
         A forgets A1 1   | NotAttached
-        A outcome A1 1   | no request
-        A outcome A2 1   | no request
+        A outcome A1 1   | NotAttached
+        A outcome A2 1   | NotAttached
         A last A1        | 0
         A asks A2 work   | NotAttached
         A tells A2 log   | NotAttached
@@ -103,7 +103,7 @@ fn channels_without_a_connection_make_no_calls(rt: HostRuntime) -> Result<(), Fa
         A forgets A2 1   | NotAttached
         A input-ends     | ok
         A asks A1 work   | NotAttached
-        A outcome A1 1   | no request
+        A outcome A1 1   | NotAttached
         A state          | InputEnded";
     a_life(&rt, rt.alloc(), &[LIVE, rows])
 }

@@ -19,7 +19,7 @@ fn a_call_is_answered_in_every_form(rt: HostRuntime) -> Result<(), Fail> {
         A outcome A1 1            | not yet
         A hears                   | credit A1 58; content A1 39; A1 answered 1
         A outcome A1 1            | 5
-        A outcome A1 2            | no request
+        A outcome A1 2            | NoRequest
         A last A1                 | 1
         B last A1                 | 0
         B hears                   | credit A1 39";

@@ -97,7 +97,7 @@ fn a_connection_behind_the_completion_ends_at_once(rt: HostRuntime) -> Result<()
         A steps                                           | Short
         A asks A1 work                                    | Ended(PeerCompleted)
         A answers A1 1 5                                  | Ended(PeerCompleted)
-        A outcome A1 1                                    | no request
+        A outcome A1 1                                    | NoRequest
         B hears                                           | credit A1 43; completed A1; closed A1
         A hears                                           | closed A1"#;
     a_life(&rt, rt.alloc(), &[LIVE, rows])
@@ -122,17 +122,17 @@ fn requests_are_lost_when_the_input_ends(rt: HostRuntime) -> Result<(), Fail> {
         A outcome A1 1     | 5
         A outcome A1 2     | lost
         A outcome A2 1     | lost
-        A outcome A2 2     | no request
+        A outcome A2 2     | NoRequest
         A last A1          | 2
         A steps            | InputEnded
         A feeds            | InputEnded
         A input-ends       | ok
         A asks A1 work     | Ended(InputEnded)
         A forgets A1 1     | ok
-        A outcome A1 1     | no request
+        A outcome A1 1     | NoRequest
         A forgets A1 1     | NoRequest
         A forgets A1 2     | ok
-        A outcome A1 2     | no request
+        A outcome A1 2     | NoRequest
         A outcome A2 1     | lost"#;
     a_life(&rt, rt.alloc(), &[LIVE, ASKED, SECOND, rows])
 }
@@ -158,7 +158,7 @@ fn a_request_that_waits_is_not_forgotten(rt: HostRuntime) -> Result<(), Fail> {
         B says A1 {"id":1,"jsonrpc":"2.0","result":5} | ok
         A hears                                       | content A1 39; A1 answered 1
         A forgets A1 1                                | ok
-        A outcome A1 1                                | no request
+        A outcome A1 1                                | NoRequest
         A outcome A1 2                                | not yet"#;
     a_life(&rt, rt.alloc(), &[LIVE, ASKED, rows])
 }

@@ -1,7 +1,7 @@
 //! Content that comes early, late or in pieces.
 
-use super::rows::{LIVE, a_life, framed, fresh, hears, is_told, lives, sent, writes};
-use crate::{ChannelKey, Endpoint};
+use super::rows::{LIVE, a_life, framed, fresh, hears, is_told, lives, makes, sent, writes};
+use crate::{Call, ChannelKey, Endpoint};
 use std::alloc::Global;
 use std::process::Abort;
 use std::test::Fail;
@@ -44,8 +44,9 @@ fn hears_two(
     b: &mut Endpoint,
     (front, rest): (&[u8], &[u8]),
 ) -> Result<String, Fail> {
-    writes(alloc, a, CHANNEL, front)?;
-    writes(alloc, a, CHANNEL, rest)?;
+    for piece in [front, rest] {
+        makes(alloc, "A", a, Call::Mux(writes(alloc, CHANNEL, piece)?))?;
+    }
     hears_of(alloc, a, b, 1_000)
 }
 

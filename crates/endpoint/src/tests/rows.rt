@@ -1,15 +1,16 @@
 //! Rows of text, and two ends that live through them.
 
-use super::answers::{
-    of_call, of_drawn, of_key, of_look, of_offer, of_read, of_state, of_step, of_tally, of_view,
-    other, word,
-};
+ghost use Rattle.endpoint_items.specs.Built.{is_built_call};
+ghost use Rattle.std.specs.Prelude.{◌≡◌, IfOk, true};
+
+use super::answers::{of_key, of_reply, of_state, of_step, of_tally, of_view, other, word};
 use super::values::{call_of, id_of, number, value};
-use crate::{Answer, ChannelKey, Encoding, Endpoint, Expect, Framing};
+use crate::{Answer, Call, ChannelKey, Encoding, Endpoint, Expect, Framing};
+use rpc_end::Terms;
 use std::alloc::Global;
 use std::process::Abort;
 use std::test::Fail;
-use wire_base::{EndState, Text, Version};
+use wire_base::{Blob, EndState, Text, Version};
 
 /// More than an end ever sends in a row.
 const ALL: usize = 1_000_000;
@@ -83,90 +84,68 @@ fn broken_off(alloc: Global, body: &str) -> Result<Vec<u8>, Fail> {
     Ok(bytes)
 }
 
-fn offers(alloc: Global, side: &str, end: &mut Endpoint, words: &str) -> Result<String, Fail> {
-    let (name, window) = first(words);
+/// What a call answers.
+pub fn makes(alloc: Global, side: &str, end: &mut Endpoint, call: Call) -> Result<String, Fail>
+    requires { is_built_call call ≡ true }
+{
+    of_reply(alloc, side, &end.apply(call))
+}
+
+fn window(word: &str) -> u32 {
+    u32::try_from(number(word)).unwrap_or(0)
+}
+
+fn offers(alloc: Global, words: &str) -> Result<mux_items::Call, Fail> {
+    let (name, word) = first(words);
     let name = Text::from_str(alloc, name)?;
-    let window = u32::try_from(number(window)).unwrap_or(0);
-    of_offer(alloc, side, end.offer(&name, window))
+    Ok(mux_items::Call::Offer(name, window(word)))
 }
 
-fn accepts(alloc: Global, end: &mut Endpoint, key: ChannelKey, word: &str) -> Result<String, Fail> {
-    let window = u32::try_from(number(word)).unwrap_or(0);
-    of_call(alloc, end.accept(key, window))
+pub fn writes(alloc: Global, key: ChannelKey, bytes: &[u8]) -> Result<mux_items::Call, Fail> {
+    let bytes = Blob::from_bytes(alloc, bytes)?;
+    Ok(mux_items::Call::Write(key, bytes))
 }
 
-pub fn writes(
-    alloc: Global,
-    end: &mut Endpoint,
-    key: ChannelKey,
-    bytes: &[u8],
-) -> Result<String, Fail> {
-    of_call(alloc, end.write(key, bytes))
-}
-
-fn reads(alloc: Global, end: &mut Endpoint, key: ChannelKey, max: u64) -> Result<String, Fail> {
-    let mut bytes = Vec::new(alloc);
-    let max = usize::try_from(max).unwrap_or(0);
-    let answer = end.read(key, max, &mut bytes);
-    of_read(alloc, answer, &bytes)
-}
-
-fn completes(alloc: Global, end: &mut Endpoint, key: ChannelKey) -> Result<String, Fail> {
-    of_call(alloc, end.complete(key))
-}
-
-fn terminates(alloc: Global, end: &mut Endpoint, key: ChannelKey) -> Result<String, Fail> {
-    of_call(alloc, end.terminate(key))
-}
-
-fn attaches(
-    alloc: Global,
-    end: &mut Endpoint,
-    key: ChannelKey,
-    words: &str,
-) -> Result<String, Fail> {
+fn attaches(key: ChannelKey, words: &str) -> Call
+    ensures { is_built_call result ≡ true }
+{
     let (framing_word, encoding_word) = first(words);
-    let (framing, encoding) = (framing(framing_word), encoding(encoding_word));
-    of_call(alloc, end.attach(key, framing, encoding))
+    let terms = Terms {
+        framing: framing(framing_word),
+        encoding: encoding(encoding_word),
+    };
+    Call::Attach(key, terms)
 }
 
-fn asks(alloc: Global, end: &mut Endpoint, key: ChannelKey, words: &str) -> Result<String, Fail> {
+fn asks(alloc: Global, key: ChannelKey, words: &str) -> Result<Call, Fail>
+    ensures { IfOk result (λ call. is_built_call call ≡ true) }
+{
     let (method, args) = call_of(alloc, words)?;
-    of_drawn(alloc, end.request(key, &method, args, Expect::Plain))
+    Ok(Call::Request(key, method, args, Expect::Plain))
 }
 
-fn tells(alloc: Global, end: &mut Endpoint, key: ChannelKey, words: &str) -> Result<String, Fail> {
+fn tells(alloc: Global, key: ChannelKey, words: &str) -> Result<Call, Fail>
+    ensures { IfOk result (λ call. is_built_call call ≡ true) }
+{
     let (method, args) = call_of(alloc, words)?;
-    of_call(alloc, end.notify(key, &method, args))
+    Ok(Call::Notify(key, method, args))
 }
 
-fn answers(
-    alloc: Global,
-    end: &mut Endpoint,
-    key: ChannelKey,
-    words: &str,
-) -> Result<String, Fail> {
+fn answers(alloc: Global, key: ChannelKey, words: &str) -> Result<Call, Fail>
+    ensures { IfOk result (λ call. is_built_call call ≡ true) }
+{
     let (id, word) = first(words);
-    let value = value(alloc, word)?;
-    of_call(
-        alloc,
-        end.respond(key, &id_of(alloc, id)?, Answer::Value(value)),
-    )
+    let answer = Answer::Value(value(alloc, word)?);
+    Ok(Call::Respond(key, id_of(alloc, id)?, answer))
 }
 
-fn fails(alloc: Global, end: &mut Endpoint, key: ChannelKey, words: &str) -> Result<String, Fail> {
+fn fails(alloc: Global, key: ChannelKey, words: &str) -> Result<Call, Fail>
+    ensures { IfOk result (λ call. is_built_call call ≡ true) }
+{
     let (id, code) = first(words);
     let text = Text::from_str(alloc, "no")?;
     let answer = Answer::Fault(number(code), text, None);
-    of_call(alloc, end.respond(key, &id_of(alloc, id)?, answer))
-}
-
-fn forgets(alloc: Global, end: &mut Endpoint, key: ChannelKey, n: u64) -> Result<String, Fail> {
-    of_call(alloc, end.forget(key, n))
-}
-
-fn outcome(alloc: Global, end: &Endpoint, key: ChannelKey, n: u64) -> Result<String, Fail> {
-    of_look(alloc, end.outcome(key, n))
+    Ok(Call::Respond(key, id_of(alloc, id)?, answer))
 }
 
 fn last(alloc: Global, end: &Endpoint, key: ChannelKey) -> Result<String, Fail> {
@@ -251,14 +230,8 @@ pub fn hears(alloc: Global, side: &str, end: &mut Endpoint, bytes: &[u8]) -> Res
 }
 
 /// What is seen of a channel.
-fn looks(
-    alloc: Global,
-    end: &Endpoint,
-    key: ChannelKey,
-    (name, words): (&str, &str),
-) -> Result<String, Fail> {
+fn looks(alloc: Global, end: &Endpoint, key: ChannelKey, name: &str) -> Result<String, Fail> {
     match name {
-        "outcome" => outcome(alloc, end, key, count(words)),
         "last" => last(alloc, end, key),
         "view" => view(alloc, end, key),
         "tally" => tally(alloc, end, key),
@@ -269,36 +242,40 @@ fn looks(
 /// A call of the multiplexing end on a channel.
 fn carries(
     alloc: Global,
-    end: &mut Endpoint,
     key: ChannelKey,
     (name, words): (&str, &str),
-) -> Result<String, Fail> {
-    match name {
-        "accepts" => accepts(alloc, end, key, words),
-        "says" => writes(alloc, end, key, &framed(alloc, words)?),
-        "begins" => writes(alloc, end, key, &broken_off(alloc, words)?),
-        "reads" => reads(alloc, end, key, count(words)),
-        "completes" => completes(alloc, end, key),
-        "terminates" => terminates(alloc, end, key),
-        _ => looks(alloc, end, key, (name, words)),
-    }
+) -> Result<Option<mux_items::Call>, Fail> {
+    Ok(Some(match name {
+        "accepts" => mux_items::Call::Accept(key, window(words)),
+        "says" => writes(alloc, key, &framed(alloc, words)?)?,
+        "begins" => writes(alloc, key, &broken_off(alloc, words)?)?,
+        "reads" => mux_items::Call::Read(key, window(words)),
+        "completes" => mux_items::Call::Complete(key),
+        "terminates" => mux_items::Call::Terminate(key),
+        _ => return Ok(None),
+    }))
 }
 
 /// A call on a channel.
 fn calls(
     alloc: Global,
+    side: &str,
     end: &mut Endpoint,
     key: ChannelKey,
     (name, words): (&str, &str),
 ) -> Result<String, Fail> {
     match name {
-        "attaches" => attaches(alloc, end, key, words),
-        "asks" => asks(alloc, end, key, words),
-        "tells" => tells(alloc, end, key, words),
-        "answers" => answers(alloc, end, key, words),
-        "fails" => fails(alloc, end, key, words),
-        "forgets" => forgets(alloc, end, key, count(words)),
-        _ => carries(alloc, end, key, (name, words)),
+        "attaches" => makes(alloc, side, end, attaches(key, words)),
+        "asks" => makes(alloc, side, end, asks(alloc, key, words)?),
+        "tells" => makes(alloc, side, end, tells(alloc, key, words)?),
+        "answers" => makes(alloc, side, end, answers(alloc, key, words)?),
+        "fails" => makes(alloc, side, end, fails(alloc, key, words)?),
+        "outcome" => makes(alloc, side, end, Call::Outcome(key, count(words))),
+        "forgets" => makes(alloc, side, end, Call::Forget(key, count(words))),
+        _ => match carries(alloc, key, (name, words))? {
+            Some(call) => makes(alloc, side, end, Call::Mux(call)),
+            None => looks(alloc, end, key, name),
+        },
     }
 }
 
@@ -312,7 +289,7 @@ pub fn happens(
 ) -> Result<String, Fail> {
     let (name, words) = first(call);
     match name {
-        "offers" => offers(alloc, side, end, words),
+        "offers" => makes(alloc, side, end, Call::Mux(offers(alloc, words)?)),
         "state" => state(alloc, end),
         "knows" => knows(alloc, side, end, number(words).unsigned_abs() as usize),
         "input-ends" => input_ends(alloc, end),
@@ -322,7 +299,7 @@ pub fn happens(
         "strays" => hears(alloc, side, end, STRAY),
         _ => {
             let (channel, words) = first(words);
-            calls(alloc, end, key(side, channel), (name, words))
+            calls(alloc, side, end, key(side, channel), (name, words))
         }
     }
 }

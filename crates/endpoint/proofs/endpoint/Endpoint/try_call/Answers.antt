@@ -1,0 +1,45 @@
+use Rattle.std.specs.Prelude.{◌+◌}
+use Rattle.std.proofs.Common.{◌≡◌, refl, ap}
+use Rattle.rpc_items.specs.Drawn.{drawn}
+use Rattle.rpc_items.specs.Items.{Ask, Forget, Respond, Tell}
+use Rattle.endpoint_items.specs.declared.call.Call.TheVariants as call
+use Rattle.endpoint_items.specs.declared.reply.Reply.TheVariants as reply
+use Rattle.endpoint_items.specs.Calls.{Attaches, OfConnection}
+use Rattle.endpoint_items.specs.Connections.{items_of}
+use Rattle.endpoint_items.specs.Layers.{rpc_of}
+use Rattle.endpoint.proofs.Applied.{applied, done_applied}
+use Rattle.endpoint.proofs.endpoint.Endpoint.try_call.Goals as goal
+
+pub returns-in-Request-clause-applies : goal.returns-in-Request-clause-applies
+returns-in-Request-clause-applies c = λ items at rest s.
+    let old = c.args.self.now in
+    let a = c.in-Request in
+    let number = drawn (items_of (rpc_of old.mux.version a.key items)) + 1 in
+    rw a.is (applied old c.request.new.self items at rest (call.Request a.key a.method a.args a.expect) (OfConnection a.key (Ask a.method a.args a.expect)) (λ n. n ≡ number) reply.Number (reply.Number number) refl refl
+    (λ n e. ap reply.Number e) (λ n. refl) c.request.result c.map.result c.map.ensures.cases (c.request.ensures.answers items at rest s))
+
+pub returns-in-Attach-clause-applies : goal.returns-in-Attach-clause-applies
+returns-in-Attach-clause-applies c = λ items at rest s.
+    let a = c.in-Attach in
+    rw a.is (done_applied c.args.self.now c.attach.new.self items at rest (call.Attach a.key a.terms) (Attaches a.key a.terms) refl refl c.attach.result c.done.result c.done.ensures (c.attach.ensures.answers items at rest s))
+
+pub returns-in-Notify-clause-applies : goal.returns-in-Notify-clause-applies
+returns-in-Notify-clause-applies c = λ items at rest s.
+    let a = c.in-Notify in
+    rw a.is (done_applied c.args.self.now c.notify.new.self items at rest (call.Notify a.key a.method a.args) (OfConnection a.key (Tell a.method a.args)) refl refl c.notify.result c.done-in-Notify.result c.done-in-Notify.ensures (c.notify.ensures.answers items at rest s))
+
+pub returns-in-Respond-clause-applies : goal.returns-in-Respond-clause-applies
+returns-in-Respond-clause-applies c = λ items at rest s.
+    let a = c.in-Respond in
+    rw a.is (done_applied c.args.self.now c.respond.new.self items at rest (call.Respond a.key a.id a.answer) (OfConnection a.key (Respond a.id a.answer)) refl refl c.respond.result c.done-in-Respond.result c.done-in-Respond.ensures (c.respond.ensures.answers items at rest s))
+
+pub returns-in-Forget-clause-applies : goal.returns-in-Forget-clause-applies
+returns-in-Forget-clause-applies c = λ items at rest s.
+    let a = c.in-Forget in
+    rw a.is (done_applied c.args.self.now c.forget.new.self items at rest (call.Forget a.key a.n) (OfConnection a.key (Forget a.n)) refl refl c.forget.result c.done-in-Forget.result c.done-in-Forget.ensures (c.forget.ensures.answers items at rest s))
+
+pub returns-in-Mux-clause-applies : goal.returns-in-Mux-clause-applies
+returns-in-Mux-clause-applies c = λ items at rest s. rw c.in-Mux.is (c.try_mux_call.ensures.applies items at rest s)
+
+pub returns-in-Outcome-clause-applies : goal.returns-in-Outcome-clause-applies
+returns-in-Outcome-clause-applies c = λ items at rest s. rw c.in-Outcome.is (c.tell.ensures.applies items at rest s)
