@@ -26,7 +26,7 @@ use Rattle.endpoint_run.proofs.Coming.{Comes, comes_mux, comes_settled}
 
 -- a call
 
-unless_in_use_ok : (in_use : Bool) (r : Option Refusal) → unless_in_use in_use r ≡ None → r ≡ None
+pub unless_in_use_ok : (in_use : Bool) (r : Option Refusal) → unless_in_use in_use r ≡ None → r ≡ None
 unless_in_use_ok in_use r = by (in_use && not (comes_first r))
   where
     by : (b : Bool) → (if b then Some refusal.Attached else r) ≡ None → r ≡ None

@@ -9,7 +9,7 @@ use Rattle.mux_run.specs.declared.steps.Side.TheVariants.{A, B}
 use Rattle.endpoint_items.specs.Items.{EndItem}
 use Rattle.endpoint_items.specs.Layers.{mux_of}
 use Rattle.endpoint_run.specs.Next.{next_item, with_next, settled_in, bytes_left}
-use Rattle.endpoint_run.specs.Run.{EndWorld, EndStep, mux_side, begun, side_of, end_run}
+use Rattle.endpoint_run.specs.Run.{EndSide, EndWorld, EndStep, mux_side, begun, side_of, end_run}
 use Rattle.endpoint_run.specs.Midway.{all_applied, IsMidway, GoesOn, BeginsMidway}
 use Rattle.endpoint_run.proofs.Boundary.{run_side}
 use Rattle.endpoint_run.proofs.Turns.{if_some}
@@ -83,6 +83,27 @@ pub midway_lies : (w : SideTerms) (given : ℕ) (y : RunSide) (items : List EndI
 midway_lies w given y items h runs =
     let lie = underway_lies w given (run_side y.items h.peer) items (underway w given y items h) runs in
     record { greeted = lie.greeted; waits = lie.waits; within = lie.within }
+
+-- what a step of this side begins with
+pub begun_midway : (w : SideTerms) (s : EndStep) (x y : EndSide) → IsMidway w x.delivered (mux_side w.version y) x.items → IsMidway w (begun w s x y).delivered (mux_side w.version y) (begun w s x y).items
+begun_midway w s x y h =
+    let o = mux_side w.version y in
+    let b = begun w s x y in
+    midway w b.delivered o h.peer b.items (underway_begun w s x y h.peer (underway w x.delivered o x.items h))
+
+-- the sides of a run
+
+pub midway_a : (terms : Terms) (steps : List EndStep) → IsMidway (terms_at_a terms) (end_run terms steps).a.delivered (mux_side terms.version (end_run terms steps).b) (end_run terms steps).a.items
+midway_a terms steps =
+    let w = end_run terms steps in
+    let h = run_underway terms steps in
+    midway (terms_at_a terms) w.a.delivered (mux_side terms.version w.b) h.fine_b w.a.items (underway_a terms w h)
+
+pub midway_b : (terms : Terms) (steps : List EndStep) → IsMidway (terms_at_b terms) (end_run terms steps).b.delivered (mux_side terms.version (end_run terms steps).a) (end_run terms steps).b.items
+midway_b terms steps =
+    let w = end_run terms steps in
+    let h = run_underway terms steps in
+    midway (terms_at_b terms) w.b.delivered (mux_side terms.version w.a) h.fine_a w.b.items (underway_b terms w h)
 
 -- a step of a run
 
