@@ -149,6 +149,20 @@ fn connections_end_with_the_end(rt: HostRuntime) -> Result<(), Fail> {
     a_life(&rt, rt.alloc(), &[LIVE, ASKED, SECOND, rows])
 }
 
+/// So does content above a channel's window.
+#[test]
+fn connections_end_where_a_window_is_exceeded(rt: HostRuntime) -> Result<(), Fail> {
+    let rows = "
+        A offers c 4     | A3
+        B hears          | content A2 44; offered A3
+        B accepts A3 100 | ok
+        A hears          | accepted A3
+        A is-flooded     | refused 32 at 24
+        A outcome A1 1   | lost
+        A outcome A2 1   | lost";
+    a_life(&rt, rt.alloc(), &[LIVE, ASKED, SECOND, rows])
+}
+
 /// Only answered and lost requests are forgotten.
 #[test]
 fn a_request_that_waits_is_not_forgotten(rt: HostRuntime) -> Result<(), Fail> {

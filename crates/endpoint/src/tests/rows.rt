@@ -18,6 +18,9 @@ const ALL: usize = 1_000_000;
 /// Content on a channel that was never offered.
 const STRAY: &[u8] = b"\x94\x02\x07\x01\xc4\x01x";
 
+/// Five bytes of content on the third channel that this end offered.
+const FLOOD: &[u8] = b"\x94\x02\x03\xff\xc4\x05hello";
+
 pub fn start(alloc: Global, version: Version, nonce: [u8; 16]) -> Result<Endpoint, Fail> {
     Ok(Endpoint::start(alloc, version, nonce)?)
 }
@@ -297,6 +300,7 @@ pub fn happens(
         "steps" => steps(alloc, side, end),
         "hears" => hears(alloc, side, end, &sent(alloc, peer, ALL)?),
         "strays" => hears(alloc, side, end, STRAY),
+        "is-flooded" => hears(alloc, side, end, FLOOD),
         _ => {
             let (channel, words) = first(words);
             calls(alloc, side, end, key(side, channel), (name, words))
