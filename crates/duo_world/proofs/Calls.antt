@@ -1,156 +1,107 @@
--- A call of an end.
-use Rattle.std.specs.Prelude.{nat_lt, not, true, IsUtf8, MatchResult, IsOkAnd}
-use Rattle.std.proofs.Common.{◌≡◌, ℕ, ◌+◌, ◌<◌, ◌≤◌, List, ◌∷◌, length, refl, sym, ◌∙◌, ap, subst, arith, Option, Some, None, Result, Ok, Err}
-use Rattle.std.proofs.lemmas.Bool.{and_parts, lt-ltb, ltb-false}
-use Rattle.std.proofs.lemmas.List.{append-nil}
-use Rattle.std.proofs.lemmas.Str.{is_utf8-from_IsUtf8}
-use Rattle.wire_base.specs.declared.limits.TheConstants.{COUNT_LIMIT, PLAIN_ID_LIMIT}
+-- What a call that an end answered leaves of its side.
+use Rattle.std.proofs.Common.{◌≡◌, List, ◌∷◌, refl, sym, ◌∙◌, ap, subst, Option, Some, None}
 use Rattle.wire_base.specs.declared.frame.Version.{Version}
-use Rattle.wire_base.specs.declared.frame.Version.TheVariants as version
-use Rattle.frame_text.specs.Frames.{fits_id}
 use Rattle.wire_base.specs.declared.refusal.Refusal.{Refusal}
-use Rattle.wire_base.specs.declared.refusal.Refusal.TheVariants as refusal
-use Rattle.wire_base.specs.declared.fault.CallFault.{CallFault}
-use Rattle.wire_base.specs.declared.fault.CallFault.TheVariants as fault
-use Rattle.mux_items.specs.declared.channel.ChannelKey.{ChannelKey}
-use Rattle.mux_items.specs.declared.party.Party.{Party}
-use Rattle.mux_items.specs.declared.party.Party.TheVariants.{Odd, Even, Neither}
-use Rattle.mux_items.specs.declared.call.Call.{Call}
-use Rattle.mux_items.specs.declared.call.Call.TheVariants as call
-use Rattle.mux_items.specs.Bodies.{has_parity}
-use Rattle.mux_items.specs.Items.{Item, ended, greeting, party_of}
-use Rattle.mux_items.specs.Limits.{longest_name, most_offers}
-use Rattle.mux_items.specs.Kept.{is_known, is_kept, own_id, own_offers, next_key}
+use Rattle.mux_items.specs.declared.call.Call.{Call as MuxCall}
+use Rattle.mux_items.specs.Calls.{item_of_call}
+use Rattle.mux_items.specs.Calls as mux
 use Rattle.mux_items.specs.Due.{got}
-use Rattle.mux_items.specs.Refusals.{is_ready, offer_refusal}
-use Rattle.mux_items.specs.Calls.{call_refusal, item_of_call, unless_refused, called}
-use Rattle.mux_items.specs.Parties.{party_by}
-use Rattle.mux_items.proofs.Permits.{if_none, unless_none, offer_permits, accept_permits, write_permits, read_permits, complete_permits, terminate_permits}
-use Rattle.mux_run.specs.declared.answers.Reply.{Reply}
-use Rattle.mux_run.specs.declared.answers.Reply.TheVariants as reply
+use Rattle.mux_items.specs.Items.{Item}
+use Rattle.mux_items.specs.Refusals.{is_ready}
 use Rattle.mux_run.specs.Run.{RunSide, SideTerms}
-use Rattle.mux_run.specs.Answers.{success, refused_or, reply_to}
-use Rattle.mux_run.proofs.Fed.{greeting_called}
-use Rattle.mux_run.proofs.Growing.{called_grown}
-use Rattle.mux_end.specs.Stands.{EndValue}
-use Rattle.mux_end.specs.Replies.{Adds, CallAnswers}
-use Rattle.duo_world.specs.Ranges.{IsKeyInRange, IsNumberInRange, IsInRange, AreInRange}
+use Rattle.rpc_items.specs.Items as rpc
+use Rattle.rpc_items.specs.Saying.{said}
+use Rattle.endpoint_items.specs.declared.call.Call.{Call}
+use Rattle.endpoint_items.specs.declared.reply.Reply.{Reply}
+use Rattle.endpoint_items.specs.declared.reply.Reply.TheVariants as reply
+use Rattle.endpoint_items.specs.Asked.{made_by, reply_to}
+use Rattle.endpoint_items.specs.Calls.{EndCall, OfMux, Attaches, OfConnection, is_in_use, used_by, call_refusal, item_of, unless_refused}
+use Rattle.endpoint_items.specs.Connections.{is_attached, items_of}
+use Rattle.endpoint_items.specs.Following.{followed, follow_ups, attach_calls, write_said}
+use Rattle.endpoint_items.specs.Items.{EndItem, terms_of}
+use Rattle.endpoint_items.specs.Layers.{mux_of, rpc_of}
+use Rattle.endpoint_run.specs.Run.{EndSide, mux_side}
+use Rattle.endpoint_run.proofs.Beginning.{unless_in_use_ok}
+use Rattle.endpoint_run.proofs.Boundary.{got_called, ready_called}
+use Rattle.endpoint.specs.Applied.{item_unless, item_made, Leaves, Applies}
+use Rattle.endpoint.specs.Value.{EndpointValue}
 use Rattle.duo_world.specs.Holding.{place_of, rest_of, StandsForSide}
+use Rattle.duo_world.specs.Ranges.{IsMadeInRange, IsCallInRange, AreInRange}
 use Rattle.duo_world.specs.Settling.{side_with}
-use Rattle.duo_world.specs.Stepping.{Calls, CallsOrFails}
-use Rattle.duo_world.proofs.Sides.{own_parity}
-use Rattle.duo_world.proofs.Frames.{ready_party, known_in_range}
-use Rattle.duo_world.proofs.Settling.{stands_item}
+use Rattle.duo_world.specs.Stepping.{called_by, Calls}
+use Rattle.duo_world.proofs.Ranging.{OwnInRange, call_in_range}
+use Rattle.duo_world.proofs.Settling.{given_side}
+use Rattle.duo_world.proofs.Standing.{got_followed, ready_followed, place_same, rest_at, stands_more}
 
--- a channel that a call finds kept is known
-kept_in_range : (w : SideTerms) (c : ChannelKey) (items : List Item) → AreInRange w items → is_kept w.version c items ≡ true → IsKeyInRange w c
-kept_in_range w c items s e = known_in_range w c items s (and_parts (is_known c items) _ e).0
+-- the multiplexing end went from some items to others, and applied nothing
+record AppliesNothing (v : Version) (m after : List Item) : Type 0 where
+  got_is : got after ≡ got m
+  ready_is : is_ready v after ≡ is_ready v m
 
--- an accepted offer has a short name
-name_short : (v : Version) (name : List ℕ) (size : ℕ) (items : List Item) → offer_refusal v name size items ≡ None → length name ≤ longest_name
-name_short v name size items e =
-    let ready = if_none (not (is_ready v items)) refusal.NotReady _ (unless_none (ended items) _ e).1 in
-    ltb-false longest_name (length name) (if_none (nat_lt longest_name (length name)) refusal.NameTooLong _ ready.1).0
+followed_nothing : (v : Version) (calls : List MuxCall) (m : List Item) → AppliesNothing v m (followed v calls m)
+followed_nothing v calls m = record { got_is = got_followed v calls m; ready_is = ready_followed v calls m }
 
--- the next own offer draws an id of the own party, below 2^32
+-- the multiplexing end refuses none of its calls that its end makes
+mux_made : (v : Version) (c : MuxCall) (items : List EndItem) → call_refusal v (OfMux c) items ≡ None → mux.call_refusal v c (mux_of v items) ≡ None
+mux_made v c items e = unless_in_use_ok (is_in_use v (used_by c) items) (mux.call_refusal v c (mux_of v items)) e
 
-id_small : (party : Party) (k : ℕ) → k + 1 ≤ most_offers → (0 < own_id party (k + 1)) × (own_id party (k + 1) < PLAIN_ID_LIMIT)
-id_small Odd k h = (omega arith, omega arith)
-id_small Even k h = (omega arith, omega arith)
-id_small Neither k h = (omega arith, omega arith)
-
-id_fits : (v : Version) (id : ℕ) → 0 < id → id < PLAIN_ID_LIMIT → fits_id v id ≡ true
-id_fits version.One id a b = rw (lt-ltb 0 id a, lt-ltb id PLAIN_ID_LIMIT b) refl
-id_fits version.Two id a b = rw (lt-ltb 0 id a, lt-ltb id COUNT_LIMIT (omega arith)) refl
-id_fits version.Three id a b = rw (lt-ltb 0 id a, lt-ltb id COUNT_LIMIT (omega arith)) refl
-
-next_in_range : (w : SideTerms) (items : List Item) → AreInRange w items → is_ready w.version items ≡ true → own_offers items + 1 ≤ most_offers → IsKeyInRange w (next_key items)
-next_in_range w items s ready more =
-    let k = own_offers items in
-    let small = id_small (party_of items) k more in
+-- an accepted call applies nothing
+call_nothing : (v : Version) (c : EndCall) (items : List EndItem) → call_refusal v c items ≡ None → AppliesNothing v (mux_of v items) (mux_of v (item_of v c items ∷ items))
+call_nothing v (OfMux c) items e =
+    let m = mux_of v items in
+    let after = item_of_call c m ∷ m in
+    let now : mux.called v c m ≡ after = ap (λ r. mux.unless_refused r (item_of_call c m) m) (mux_made v c items e) in
+    let follow = followed_nothing v (follow_ups v (λ c. is_attached (rpc_of v c items)) (item_of_call c m) after) after in
     record {
-      id = id_fits w.version (own_id (party_of items) (k + 1)) small.0 small.1;
-      source = λ two.
-          let party : party_of items ≡ party_by w.own w.peer = (ready_party w items s ready two).party_is in
-          sym (ap (λ party. has_parity (party_by w.own w.peer) (own_id party (k + 1))) party ∙ own_parity w.own w.peer k);
+      got_is = follow.got_is ∙ (ap got (sym now) ∙ got_called v c m);
+      ready_is = follow.ready_is ∙ (ap (is_ready v) (sym now) ∙ ready_called v c m);
     }
+call_nothing v (Attaches c terms) items e = followed_nothing v (attach_calls v c (mux_of v items)) (mux_of v items)
+call_nothing v (OfConnection c call) items e = followed_nothing v (write_said c (terms_of c items) (said (rpc.Did call) (items_of (rpc_of v c items))) (mux_of v items)) (mux_of v items)
 
--- what the types of a call's parts say
-abbrev pub HasParts : Call → Type 0
-HasParts (call.Offer name size) = IsUtf8 name × IsNumberInRange size
-HasParts (call.Accept c size) = IsNumberInRange size
-HasParts (call.Write c bytes) = Unit {0}
-HasParts (call.Read c max) = IsNumberInRange max
-HasParts (call.Complete c) = Unit {0}
-HasParts (call.Terminate c) = Unit {0}
+-- and adds what is in range
+made_in_range : (w : SideTerms) (c : EndCall) (items : List EndItem) → IsMadeInRange (Some c) → AreInRange w (mux_of w.version items) → call_refusal w.version c items ≡ None → OwnInRange w (item_of w.version c items) (mux_of w.version items)
+made_in_range w (OfMux c) items parts s e = call_in_range w c (mux_of w.version items) parts s (mux_made w.version c items e)
+made_in_range w (Attaches c terms) items parts s e = tt
+made_in_range w (OfConnection c call) items parts s e = tt
 
--- the frames of an accepted call can be written
-call_in_range : (w : SideTerms) (c : Call) (items : List Item) → HasParts c → AreInRange w items → call_refusal w.version c items ≡ None → IsInRange w (item_of_call c items) items
-call_in_range w (call.Offer name size) items parts s e =
-    let o = offer_permits w.version name size items e in
-    (next_in_range w items s o.ready o.more, record { utf8 = is_utf8-from_IsUtf8 name parts.0; short = name_short w.version name size items e }, parts.1)
-call_in_range w (call.Accept c size) items small s e = (kept_in_range w c items s (accept_permits w.version c size items e).kept, small)
-call_in_range w (call.Write c bytes) items parts s e = kept_in_range w c items s (write_permits w.version c bytes items e).call.kept
-call_in_range w (call.Read c max) items small s e = (kept_in_range w c items s (read_permits w.version c items e), omega arith)
-call_in_range w (call.Complete c) items parts s e = kept_in_range w c items s (complete_permits w.version c items e).call.kept
-call_in_range w (call.Terminate c) items parts s e = kept_in_range w c items s (terminate_permits w.version c items e).kept
+-- what an end that stood for the side x answered of the item that a call adds
+abbrev LeavesAt : SideTerms → (old new : EndpointValue) → EndSide → RunSide → Option EndItem → Type 0
+LeavesAt w old new x y item = Leaves old new x.items (place_of w (mux_side w.version x) y) (rest_of w (mux_side w.version x) y) item
 
--- what a call answered
-
-accepted : {A : Type 0} (old new : EndValue) (items : List Item) (at : ℕ) (rest : List ℕ) (r : Option Refusal) (item : Item) (IsAnswer : A → Type 0) (z : A)
-    → CallAnswers old new items at rest r item IsAnswer (Ok z) → (r ≡ None) × Adds old new items at rest item × IsAnswer z
-accepted old new items at rest None item IsAnswer z a = (refl, a.0, a.1)
-accepted old new items at rest (Some r) item IsAnswer z a = absurd a
-
-refused : {A : Type 0} (old new : EndValue) (items : List Item) (at : ℕ) (rest : List ℕ) (r : Option Refusal) (item : Item) (IsAnswer : A → Type 0) (r' : Refusal)
-    → CallAnswers old new items at rest r item IsAnswer (Err (fault.Refused r')) → (r ≡ Some r') × (new ≡ old)
-refused old new items at rest None item IsAnswer r' a = absurd a
-refused old new items at rest (Some r) item IsAnswer r' a = (ap (λ r. Some r) (sym a.0), a.1)
-
--- what an end that stands for the side x answers to a call
-abbrev pub AnswersAt : {A : Type 0} → SideTerms → Call → (old new : EndValue) → (x y : RunSide) → (A → Type 0) → Result A CallFault → Type 0
-AnswersAt w c old new x y IsAnswer result = CallAnswers old new x.items (place_of w x y) (rest_of w x y) (call_refusal old.version c x.items) (item_of_call c x.items) IsAnswer result
-
-call_done : {A : Type 0} (w : SideTerms) (c : Call) (old new : EndValue) (x y : RunSide) (IsAnswer : A → Type 0) (z : A) → HasParts c → StandsForSide w old x y → AnswersAt w c old new x y IsAnswer (Ok z)
-    → IsAnswer z × (reply_to w.version c x.items ≡ success w.version c x.items) × StandsForSide w new (side_with (called w.version c x.items) x.delivered) y
-call_done w c old new x y IsAnswer z parts h a =
+made : (w : SideTerms) (c : EndCall) (old new : EndpointValue) (x : EndSide) (y : RunSide) (r : Option Refusal) → call_refusal w.version c x.items ≡ r → IsMadeInRange (Some c) → StandsForSide w old x y
+    → LeavesAt w old new x y (item_unless r (item_of w.version c x.items)) → StandsForSide w new (side_with (unless_refused r (item_of w.version c x.items) x.items) x.delivered) y
+made w c old new x y (Some refusal) e parts h a = subst (λ end. StandsForSide w end x y) (sym a) h
+made w c old new x y None e parts h a =
     let v = w.version in
-    let items = x.items in
-    let item = item_of_call c items in
-    let p = accepted old new items (place_of w x y) (rest_of w x y) (call_refusal old.version c items) item IsAnswer z a in
-    let ok : call_refusal v c items ≡ None = sym (ap (λ v. call_refusal v c items) h.version) ∙ p.0 in
-    let now : called v c items ≡ item ∷ items = ap (λ r. unless_refused r item items) ok in
-    let same : got (item ∷ items) ≡ got items = ap got (sym now) ∙ ((called_grown v c items).applied ∙ append-nil (got items)) in (
-      p.2,
-      ap (λ r. refused_or r (success v c items)) ok,
-      subst (λ items. StandsForSide w new (side_with items x.delivered) y) (sym now)
-          (stands_item w old new item items x.delivered y same (ap greeting (sym now) ∙ greeting_called v c items) (call_in_range w c items parts h.in_range ok) h p.1),
-    )
+    let item = item_of v c x.items in
+    let m = mux_of v x.items in
+    let after = mux_of v (item ∷ x.items) in
+    let nothing = call_nothing v c x.items e in
+    let at : place_of w (mux_side v x) y ≡ place_of w (given_side after x.delivered) y = sym (place_same w x.delivered m after y nothing.got_is nothing.ready_is) in
+    stands_more w old new item x.items x.delivered y (place_of w (mux_side v x) y) (rest_of w (mux_side v x) y) h (made_in_range w c x.items parts h.in_range e) a at
+    (rest_at w x.delivered (place_of w (mux_side v x) y) after y at)
 
-pub call_failed : {A : Type 0} (w : SideTerms) (c d : Call) (old new : EndValue) (x y : RunSide) (IsAnswer : A → Type 0) (f : CallFault) → c ≡ d → StandsForSide w old x y → AnswersAt w d old new x y IsAnswer (Err f)
-    → CallsOrFails w c new x y (Err f)
-call_failed w c d old new x y IsAnswer (fault.Refused r) e h a =
-    let v = w.version in
-    let items = x.items in
-    let item = item_of_call d items in
-    let p = refused old new items (place_of w x y) (rest_of w x y) (call_refusal old.version d items) item IsAnswer r a in
-    let no : call_refusal v d items ≡ Some r = sym (ap (λ v. call_refusal v d items) h.version) ∙ p.0 in
-    subst (λ c. Calls w c new x y (reply.Refused r)) (sym e) (
-      sym (ap (λ r. refused_or r (success v d items)) no),
-      subst (λ items. StandsForSide w new (side_with items x.delivered) y) (sym (ap (λ r. unless_refused r item items) no)) (subst (λ end. StandsForSide w end x y) (sym p.1) h),
-    )
-call_failed w c d old new x y IsAnswer fault.OutOfMemory e h a = tt
+leaves : (w : SideTerms) (o : Option EndCall) (old new : EndpointValue) (x : EndSide) (y : RunSide) → IsMadeInRange o → StandsForSide w old x y → LeavesAt w old new x y (item_made w.version o x.items)
+    → StandsForSide w new (side_with (called_by w.version o x.items) x.delivered) y
+leaves w (Some c) old new x y parts h a = made w c old new x y (call_refusal w.version c x.items) refl parts h a
+leaves w None old new x y parts h a = subst (λ end. StandsForSide w end x y) (sym a) h
 
--- a call whose answer gives this reply
-pub call_replied : {A : Type 0} (w : SideTerms) (c d : Call) (old new : EndValue) (x y : RunSide) (IsAnswer : A → Type 0) (z : A) (r : Reply) → c ≡ d → HasParts d → StandsForSide w old x y → AnswersAt w d old new x y IsAnswer (Ok z)
-    → (IsAnswer z → r ≡ success w.version d x.items) → Calls w c new x y r
-call_replied w c d old new x y IsAnswer z r e parts h a is =
-    let done = call_done w d old new x y IsAnswer z parts h a in
-    subst (λ c. Calls w c new x y r) (sym e) (is done.0 ∙ sym done.1, done.2)
+answered : (w : SideTerms) (c : Call) (old new : EndpointValue) (x : EndSide) (y : RunSide) (r : Reply) → IsCallInRange c → StandsForSide w old x y
+    → (r ≡ reply_to old.mux.version c x.items) × LeavesAt w old new x y (item_made old.mux.version (made_by c) x.items) → Calls w c new x y r
+answered w c old new x y r parts h a = (
+  a.0 ∙ ap (λ v. reply_to v c x.items) h.version,
+  leaves w (made_by c) old new x y parts h (subst (λ v. LeavesAt w old new x y (item_made v (made_by c) x.items)) h.version a.1),
+)
 
-pub call_mapped : {A : Type 0} (w : SideTerms) (c d : Call) (old new : EndValue) (x y : RunSide) (IsAnswer : A → Type 0) (f : A → Reply) (answer : Result A CallFault) (result : Result Reply CallFault)
-    → c ≡ d → HasParts d → StandsForSide w old x y → AnswersAt w d old new x y IsAnswer answer
-    → ((z : A) → IsAnswer z → f z ≡ success w.version d x.items) → MatchResult answer (λ z. IsOkAnd result (λ r. r ≡ f z)) (λ e. result ≡ Err e) → CallsOrFails w c new x y result
-call_mapped w c d old new x y IsAnswer f (Ok z) (Ok r) e parts h a is m = call_replied w c d old new x y IsAnswer z r e parts h a (λ answer. m ∙ is z answer)
-call_mapped w c d old new x y IsAnswer f (Ok z) (Err g) e parts h a is m = absurd m
-call_mapped w c d old new x y IsAnswer f (Err g) result e parts h a is m = subst (CallsOrFails w c new x y) (sym m) (call_failed w c d old new x y IsAnswer g e h a)
+-- a call that memory sufficed for
+pub calls : (w : SideTerms) (c : Call) (old new : EndpointValue) (x : EndSide) (y : RunSide) (r : Reply) → IsCallInRange c → StandsForSide w old x y
+    → Applies old new x.items (place_of w (mux_side w.version x) y) (rest_of w (mux_side w.version x) y) c r → (r ≡ reply.OutOfMemory → ⊥) → Calls w c new x y r
+calls w c old new x y reply.OutOfMemory parts h a enough = absurd (enough refl)
+calls w c old new x y reply.Done parts h a enough = answered w c old new x y reply.Done parts h a
+calls w c old new x y (reply.Made key) parts h a enough = answered w c old new x y (reply.Made key) parts h a
+calls w c old new x y (reply.Bytes bytes) parts h a enough = answered w c old new x y (reply.Bytes bytes) parts h a
+calls w c old new x y (reply.Number n) parts h a enough = answered w c old new x y (reply.Number n) parts h a
+calls w c old new x y (reply.Known outcome) parts h a enough = answered w c old new x y (reply.Known outcome) parts h a
+calls w c old new x y reply.NotYet parts h a enough = answered w c old new x y reply.NotYet parts h a
+calls w c old new x y (reply.Refused r) parts h a enough = answered w c old new x y (reply.Refused r) parts h a

@@ -114,10 +114,6 @@ ready_party w items s ready two = told w items s (ap (λ b. b || is_greeted (gre
 
 -- a channel of one side is the other's too
 
-not_not : (b : Bool) → not (not b) ≡ b
-not_not true = refl
-not_not false = refl
-
 turned_side : (w : SideTerms) (c : ChannelKey) → HaveNonces w → bytes_eq w.own w.peer ≡ false → IsKeyInRange (turned w) c → is_three w.version ≡ false → not c.own ≡ has_parity (party_by w.own w.peer) c.id
 turned_side w c n differ s two =
     ap not (s.source two) ∙ sym (other_parity w.own w.peer c.id (n.own ∙ sym n.peer) differ)

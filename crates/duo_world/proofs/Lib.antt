@@ -3,8 +3,11 @@ pub mod Frames
 pub mod Fronts
 pub mod Settling
 pub mod Greetings
+pub mod Coming
+pub mod Ranging
+pub mod Standing
 pub mod Arriving
-pub mod Calls
-pub mod Delivering
-pub mod Answering
 pub mod Worlds
+pub mod Delivering
+pub mod Calls
+pub mod Answering

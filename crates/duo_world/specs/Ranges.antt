@@ -1,8 +1,10 @@
 -- What the frames of an item say is in its range, and tells its channel.
-use Rattle.std.specs.Prelude.{◌≡◌, ◌<◌, ◌≤◌, ℕ, min, List, [], ◌∷◌, length, true, false}
+use Rattle.std.specs.Prelude.{◌≡◌, ◌<◌, ◌≤◌, ℕ, min, List, [], ◌∷◌, length, true, false, Option, Some, IsUtf8}
 use Rattle.std.specs.Str.{is_utf8, bytes_eq}
 use Rattle.wire_base.specs.declared.limits.TheConstants.{COUNT_LIMIT}
 use Rattle.frame_text.specs.Frames.{fits_id}
+use Rattle.mux_items.specs.declared.call.Call.{Call as MuxCall}
+use Rattle.mux_items.specs.declared.call.Call.TheVariants as mux_call
 use Rattle.mux_items.specs.declared.channel.ChannelKey.{ChannelKey}
 use Rattle.mux_items.specs.declared.party.Party.{Party}
 use Rattle.mux_items.specs.Bodies.{has_parity, is_three}
@@ -11,6 +13,9 @@ use Rattle.mux_items.specs.Limits.{longest_name}
 use Rattle.mux_items.specs.Lists.{unread}
 use Rattle.mux_items.specs.Parties.{party_by}
 use Rattle.mux_run.specs.Run.{SideTerms}
+use Rattle.endpoint_items.specs.declared.call.Call.{Call}
+use Rattle.endpoint_items.specs.Asked.{made_by}
+use Rattle.endpoint_items.specs.Calls.{EndCall, OfMux}
 
 -- an id of the version's range; in versions 1 and 2, which write no channel source, a side's own ids have its party's parity
 pub record IsKeyInRange (w : SideTerms) (key : ChannelKey) : Type 0 where
@@ -48,3 +53,19 @@ IsInRange w (End cause) items = Unit {0}
 abbrev pub AreInRange : SideTerms → List Item → Type 0
 AreInRange w [] = Unit {0}
 AreInRange w (item ∷ items) = IsInRange w item items × AreInRange w items
+
+-- what the types of a call's parts say: a name is UTF-8, and windows and maxima are in range
+abbrev pub IsMuxCallInRange : MuxCall → Type 0
+IsMuxCallInRange (mux_call.Offer name size) = IsUtf8 name × IsNumberInRange size
+IsMuxCallInRange (mux_call.Accept c size) = IsNumberInRange size
+IsMuxCallInRange (mux_call.Write c bytes) = Unit {0}
+IsMuxCallInRange (mux_call.Read c max) = IsNumberInRange max
+IsMuxCallInRange (mux_call.Complete c) = Unit {0}
+IsMuxCallInRange (mux_call.Terminate c) = Unit {0}
+
+abbrev pub IsMadeInRange : Option EndCall → Type 0
+IsMadeInRange (Some (OfMux c)) = IsMuxCallInRange c
+IsMadeInRange made = Unit {0}
+
+abbrev pub IsCallInRange : Call → Type 0
+IsCallInRange c = IsMadeInRange (made_by c)

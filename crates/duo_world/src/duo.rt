@@ -1,36 +1,40 @@
-//! Two joined ends, and the steps that were made with them.
+//! Two joined ends with connections, and the steps that were made with them.
 
 ghost use Rattle.duo_world.specs.Holding.{DuoHolds, StandsForRun, end_of, flight_to, output_to};
-ghost use Rattle.duo_world.specs.Stepping.{IsStepped, Steps};
-ghost use Rattle.mux_credit.specs.Runs.{KeepsCreditRun};
-ghost use Rattle.mux_run.specs.Run.{run, terms_of};
-ghost use Rattle.mux_run.specs.Safe.{IsSafeRun};
+ghost use Rattle.duo_world.specs.Stepping.{IsStepped, RunHolds, Steps};
+ghost use Rattle.endpoint_run.specs.Answers.{are_built_steps, is_built_step, run};
+ghost use Rattle.mux_run.specs.Run.{terms_of};
 ghost use Rattle.std.specs.Prelude.{◌≡◌, [], IfOk, OnErr, false, true};
 
 use crate::ends::make_step;
-use mux_end::MuxEnd;
-use mux_run::{DuoAnswer, Side, Step, StepList};
+use endpoint::Endpoint;
+use endpoint_run::{DuoAnswer, Side, Step, StepList};
 use std::alloc::Global;
 use std::marker::Model;
 use wire_base::{OutOfMemory, Version};
 
-/// Two ends that are joined by two byte streams.
+/// Two ends with connections that are joined by two byte streams.
 #[derive(Drop)]
 pub struct Duo {
     alloc: Global,
     version: Version,
     nonce_a: [u8; 16],
     nonce_b: [u8; 16],
-    a: MuxEnd,
-    b: MuxEnd,
+    a: Endpoint,
+    b: Endpoint,
     steps: StepList,
     failed: bool,
 }
 
 impl Model for Duo {
+    ghost use Rattle.call_table.specs.Codes.{coded_table};
     ghost use Rattle.duo_world.specs.Holding.{DuoHolds, DuoState};
+    ghost use Rattle.endpoint_run.specs.contracts.steps.Step as step;
+    ghost use Rattle.std.specs.Coded.{codes};
 
     ghost Value = { DuoState };
+
+    ghost coded = { Prim.hlevel (codes, coded_table, step.the_row.coded) };
 
     ghost view = { λ d. record { terms = record { version = d.version; nonce_a = d.nonce_a; nonce_b = d.nonce_b }; a = d.a; b = d.b; steps = d.steps; failed = d.failed } };
 
@@ -42,12 +46,11 @@ impl Duo {
     pub fn start(alloc: Global, version: Version, nonces: [[u8; 16]; 2]) -> Result<Duo, OutOfMemory>
         ensures fresh { IfOk result (λ d. (d.steps ≡ []) × (d.failed ≡ false) × (d.terms ≡ terms_of version nonces)) }
         ensures stands { IfOk result StandsForRun }
-        ensures safe { IfOk result (λ d. IsSafeRun d.terms d.steps) }
-        ensures credit { IfOk result (λ d. KeepsCreditRun d.terms d.steps) }
+        ensures holds { IfOk result (λ d. RunHolds d.terms d.steps) }
     {
         let [nonce_a, nonce_b] = nonces;
-        let a = MuxEnd::start(alloc, version, nonce_a)?;
-        let b = MuxEnd::start(alloc, version, nonce_b)?;
+        let a = Endpoint::start(alloc, version, nonce_a)?;
+        let b = Endpoint::start(alloc, version, nonce_b)?;
         Ok(Duo {
             alloc,
             version,
@@ -61,7 +64,8 @@ impl Duo {
     }
 
     fn try_step(&mut self, step: Step) -> Result<DuoAnswer, OutOfMemory>
-        requires { self.old.failed ≡ false }
+        requires works { self.old.failed ≡ false }
+        requires built { is_built_step step ≡ true }
         ensures ok { IfOk result (IsStepped self.old self.new step) }
         ensures err { OnErr result (self.new.failed ≡ true) }
     {
@@ -75,6 +79,7 @@ impl Duo {
     /// Makes a step: a call, a delivery of at most so many of the bytes in flight to a side, or the end of the stream
     /// into a side. After a call or a delivery that side applies what is whole.
     pub fn step(&mut self, step: Step) -> DuoAnswer
+        requires { is_built_step step ≡ true }
         ensures { self.old.failed ≡ false → Steps self.old self.new step result }
     {
         if self.failed {
@@ -93,10 +98,10 @@ impl Duo {
         nonces: [[u8; 16]; 2],
         steps: StepList,
     ) -> Result<Duo, OutOfMemory>
+        requires { are_built_steps steps ≡ true }
         ensures stored { IfOk result (λ d. (d.steps ≡ steps) × (d.failed ≡ false) × (d.terms ≡ terms_of version nonces)) }
         ensures stands { IfOk result StandsForRun }
-        ensures safe { IfOk result (λ d. IsSafeRun d.terms d.steps) }
-        ensures credit { IfOk result (λ d. KeepsCreditRun d.terms d.steps) }
+        ensures holds { IfOk result (λ d. RunHolds d.terms d.steps) }
     {
         let mut duo = Duo::start(alloc, version, nonces)?;
         for step in steps.into_vec() {
@@ -117,7 +122,7 @@ impl Duo {
     }
 
     /// The end of a side.
-    pub fn end(&self, side: Side) -> &MuxEnd
+    pub fn end(&self, side: Side) -> &Endpoint
         ensures end { result.now ≡ end_of side self.now }
         ensures holds { DuoHolds self.now }
     {

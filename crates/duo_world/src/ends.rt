@@ -1,20 +1,26 @@
 //! What a step does to the two ends.
 
-ghost use Rattle.duo_world.specs.Settling.{IsMidStep, IsSettled, is_running_state};
+ghost use Rattle.duo_world.specs.Settling.{IsMidStep, IsSettled, is_running_state, side_with};
 ghost use Rattle.duo_world.specs.Holding.{StandsForSide};
-ghost use Rattle.duo_world.specs.Stepping.{Calls, CallsOrFails, IsBetweenSteps, StepsAt, StepsIn};
-ghost use Rattle.mux_end.specs.Stands.{EndValue};
-ghost use Rattle.mux_items.specs.Items.{Item};
-ghost use Rattle.mux_run.specs.Run.{RunSide, SideTerms, Terms, World, settled, side_of, terms_at_a};
+ghost use Rattle.duo_world.specs.Ranges.{IsCallInRange, IsMuxCallInRange};
+ghost use Rattle.duo_world.specs.Stepping.{Calls, IsBetweenSteps, StepsAt, StepsIn};
+ghost use Rattle.endpoint_items.specs.Built.{is_built_call};
+ghost use Rattle.endpoint.specs.Value.{EndpointValue};
+ghost use Rattle.endpoint_items.specs.Asked.{made_by};
+ghost use Rattle.endpoint_items.specs.Items.{EndItem};
+ghost use Rattle.endpoint_run.specs.Answers.{is_built_step, side_of};
+ghost use Rattle.endpoint_run.specs.Midway.{all_applied};
+ghost use Rattle.endpoint_run.specs.Run.{EndSide, EndWorld};
+ghost use Rattle.mux_run.specs.Run.{RunSide, SideTerms, Terms, terms_at_a};
 ghost use Rattle.mux_run.specs.declared.steps.Side.{Side};
-ghost use Rattle.std.specs.Prelude.{◌≡◌, ℕ, List, OnOk, IfOk, IsOkAnd, MatchResult};
+ghost use Rattle.std.specs.Prelude.{◌≡◌, ℕ, List, OnOk, IfOk, is_none, true};
 
-use mux_end::{MuxEnd, MuxStep};
-use mux_run::{Call, DuoAnswer, EndEvent, EventList, Reply, Side, Step};
+use endpoint::{EndStep, Endpoint};
+use endpoint_run::{Call, DuoAnswer, EventList, Reply, Side, SideEvent, Step};
 use std::alloc::Global;
-use wire_base::{Blob, CallFault, EndState, OutOfMemory};
+use wire_base::{EndState, OutOfMemory};
 
-fn is_running(end: &MuxEnd) -> bool
+fn is_running(end: &Endpoint) -> bool
     ensures { result ≡ is_running_state end.now.state }
 {
     match end.state() {
@@ -24,91 +30,105 @@ fn is_running(end: &MuxEnd) -> bool
 }
 
 /// Applies, at an end that runs, what is whole of the bytes that it was given.
-fn settle(own: &mut MuxEnd, events: &mut EventList) -> Result<(), OutOfMemory>
-    ensures { (w : SideTerms) (delivered older : ℕ) (items : List Item) (y : RunSide) → IsMidStep w delivered older own.old events.old items y →
-        OnOk result (IsSettled w older own.new events.new (settled w delivered items y) y) }
+fn settle(own: &mut Endpoint, events: &mut EventList) -> Result<(), OutOfMemory>
+    ensures { (w : SideTerms) (delivered older : ℕ) (items : List EndItem) (y : RunSide) → IsMidStep w delivered older own.old events.old items y →
+        OnOk result (IsSettled w older own.new events.new (side_with (all_applied w delivered y items) delivered) y) }
 {
     if !is_running(own) {
         return Ok(());
     }
-    'steps: loop {
+    'steps: for _ in 0..u64::MAX {
         match own.step() {
-            MuxStep::Event(event) => events.push(EndEvent::Mux(event))?,
-            MuxStep::Short => return Ok(()),
-            MuxStep::Ended(cause) => {
-                events.push(EndEvent::Ended(cause))?;
+            EndStep::Event(event) => events.push(SideEvent::Happened(event))?,
+            EndStep::Short => return Ok(()),
+            EndStep::Ended(cause) => {
+                events.push(SideEvent::Ended(cause))?;
                 return Ok(());
             }
-            MuxStep::Stopped | MuxStep::OutOfMemory => return Err(OutOfMemory),
+            EndStep::Stopped | EndStep::OutOfMemory => return Err(OutOfMemory),
         }
+    }
+    // not reached: each step takes a byte at least, and an end is fed fewer
+    Err(OutOfMemory)
+}
+
+/// Does nothing: that the parts of a call of a multiplexing end are in their ranges is said by their types.
+fn note_mux_ranges(call: &mux_items::Call)
+    ensures { IsMuxCallInRange call.now }
+{
+    match call {
+        mux_items::Call::Offer(name, window) => {
+            let _text = name.as_str();
+            let _window = *window;
+        }
+        mux_items::Call::Accept(_, window) => {
+            let _window = *window;
+        }
+        mux_items::Call::Read(_, max) => {
+            let _max = *max;
+        }
+        mux_items::Call::Write(_, _)
+        | mux_items::Call::Complete(_)
+        | mux_items::Call::Terminate(_) => {}
     }
 }
 
-/// The reply to a call that answers nothing more.
-fn done(answer: Result<(), CallFault>) -> Result<Reply, CallFault>
-    ensures { MatchResult answer (λ _. IsOkAnd result (λ r. r ≡ Reply.Done)) (λ e. result ≡ Err e) }
+/// The same of a call of an end.
+fn note_ranges(call: &Call)
+    ensures { IsCallInRange call.now }
 {
-    match answer {
-        Ok(()) => Ok(Reply::Done),
-        Err(fault) => Err(fault),
+    match call {
+        Call::Mux(call) => note_mux_ranges(call),
+        Call::Attach(_, _)
+        | Call::Request(_, _, _, _)
+        | Call::Notify(_, _, _)
+        | Call::Respond(_, _, _)
+        | Call::Outcome(_, _)
+        | Call::Forget(_, _) => {}
     }
 }
 
 /// Makes a call at an end.
-fn try_call(alloc: Global, own: &mut MuxEnd, call: &Call) -> Result<Reply, CallFault>
-    ensures { (w : SideTerms) (x y : RunSide) → StandsForSide w own.old x y → CallsOrFails w call.now own.new x y result }
+fn make_call(alloc: Global, own: &mut Endpoint, call: &Call) -> Result<Reply, OutOfMemory>
+    requires { is_built_call call.now ≡ true }
+    ensures { (w : SideTerms) (x : EndSide) (y : RunSide) → StandsForSide w own.old x y → IfOk result (Calls w call.now own.new x y) }
 {
-    match call {
-        Call::Offer(name, window) => {
-            // a text is UTF-8, which the frame of the offer asks
-            let _text = name.as_str();
-            own.offer(name, *window).map(Reply::Made)
-        }
-        Call::Accept(key, window) => done(own.accept(*key, *window)),
-        Call::Write(key, bytes) => done(own.write(*key, bytes.as_bytes())),
-        Call::Read(key, max) => {
-            let mut bytes = Vec::new(alloc);
-            own.read(*key, *max as usize, &mut bytes)?;
-            match Blob::from_bytes(alloc, bytes.as_slice()) {
-                Ok(read) => Ok(Reply::Bytes(read)),
-                Err(_) => Err(CallFault::OutOfMemory),
-            }
-        }
-        Call::Complete(key) => done(own.complete(*key)),
-        Call::Terminate(key) => done(own.terminate(*key)),
+    note_ranges(call);
+    match own.apply(call.copy(alloc)?) {
+        Reply::OutOfMemory => Err(OutOfMemory),
+        reply => Ok(reply),
     }
 }
 
-/// The same, where a refusal is a reply.
-fn make_call(alloc: Global, own: &mut MuxEnd, call: &Call) -> Result<Reply, OutOfMemory>
-    ensures { (w : SideTerms) (x y : RunSide) → StandsForSide w own.old x y → IfOk result (Calls w call.now own.new x y) }
+/// Whether something is asked that changes nothing.
+fn is_question(call: &Call) -> bool
+    ensures { result ≡ is_none (made_by call.now) }
 {
-    match try_call(alloc, own, call) {
-        Ok(reply) => Ok(reply),
-        Err(CallFault::Refused(refusal)) => Ok(Reply::Refused(refusal)),
-        Err(CallFault::OutOfMemory) => Err(OutOfMemory),
-    }
+    matches!(call, Call::Outcome(_, _))
 }
 
 /// Makes a call at an end, and lets it apply what is whole.
-fn call_at(alloc: Global, own: &mut MuxEnd, call: &Call) -> Result<DuoAnswer, OutOfMemory>
-    ensures { (w : SideTerms) (side : Side) (peer : EndValue) (x y : RunSide) → IsBetweenSteps w own.old peer x y →
+fn call_at(alloc: Global, own: &mut Endpoint, call: &Call) -> Result<DuoAnswer, OutOfMemory>
+    requires { is_built_call call.now ≡ true }
+    ensures { (w : SideTerms) (side : Side) (peer : EndpointValue) (x y : EndSide) → IsBetweenSteps w own.old peer x y →
         IfOk result (StepsAt w (Step.Call side call.now) own.new peer x y) }
 {
     let mut events = EventList::new(alloc);
     let reply = make_call(alloc, own, call)?;
-    settle(own, &mut events)?;
+    if !is_question(call) {
+        settle(own, &mut events)?;
+    }
     Ok(DuoAnswer::Replied(reply, events))
 }
 
 /// Gives an end that runs the next bytes of the other's output, at most so many, and lets it apply what is whole.
 fn deliver(
     alloc: Global,
-    own: &mut MuxEnd,
-    peer: &mut MuxEnd,
+    own: &mut Endpoint,
+    peer: &mut Endpoint,
     n: u64,
 ) -> Result<DuoAnswer, OutOfMemory>
-    ensures { (w : SideTerms) (side : Side) (x y : RunSide) → IsBetweenSteps w own.old peer.old x y →
+    ensures { (w : SideTerms) (side : Side) (x y : EndSide) → IsBetweenSteps w own.old peer.old x y →
         IfOk result (StepsAt w (Step.Deliver side n) own.new peer.new x y) }
 {
     let mut events = EventList::new(alloc);
@@ -124,7 +144,7 @@ fn deliver(
             Ok(DuoAnswer::Delivered(count as u64, events))
         }
         EndState::Ended(cause) => {
-            events.push(EndEvent::Ended(cause))?;
+            events.push(SideEvent::Ended(cause))?;
             Ok(DuoAnswer::Delivered(0, events))
         }
         EndState::Stopped => Err(OutOfMemory),
@@ -134,11 +154,12 @@ fn deliver(
 /// Makes a step at one side, whose end comes first.
 fn step_at(
     alloc: Global,
-    own: &mut MuxEnd,
-    peer: &mut MuxEnd,
+    own: &mut Endpoint,
+    peer: &mut Endpoint,
     step: &Step,
 ) -> Result<DuoAnswer, OutOfMemory>
-    ensures { (w : SideTerms) (x y : RunSide) → IsBetweenSteps w own.old peer.old x y → IfOk result (StepsAt w step.now own.new peer.new x y) }
+    requires { is_built_step step.now ≡ true }
+    ensures { (w : SideTerms) (x y : EndSide) → IsBetweenSteps w own.old peer.old x y → IfOk result (StepsAt w step.now own.new peer.new x y) }
 {
     match step {
         Step::Call(_, call) => call_at(alloc, own, call),
@@ -161,11 +182,12 @@ fn side_of(step: &Step) -> Side
 /// Makes a step at its side.
 pub fn make_step(
     alloc: Global,
-    a: &mut MuxEnd,
-    b: &mut MuxEnd,
+    a: &mut Endpoint,
+    b: &mut Endpoint,
     step: &Step,
 ) -> Result<DuoAnswer, OutOfMemory>
-    ensures { (terms : Terms) (w : World) → IsBetweenSteps (terms_at_a terms) a.old b.old w.a w.b → IfOk result (StepsIn terms step.now a.new b.new w) }
+    requires { is_built_step step.now ≡ true }
+    ensures { (terms : Terms) (w : EndWorld) → IsBetweenSteps (terms_at_a terms) a.old b.old w.a w.b → IfOk result (StepsIn terms step.now a.new b.new w) }
 {
     match side_of(step) {
         Side::A => step_at(alloc, a, b, step),

@@ -3,7 +3,8 @@
 
 mod duo;
 mod ends;
-#[cfg(test)]
-mod tests;
 
 pub use duo::Duo;
+
+#[cfg(test)]
+mod tests;

@@ -1,11 +1,16 @@
 //! Worked values of two joined ends.
 
+ghost use Rattle.endpoint_run.specs.Answers.{are_built_steps, is_built_step};
+ghost use Rattle.endpoint_items.specs.Built.{is_built_call};
+ghost use Rattle.std.specs.Prelude.{◌≡◌, IfOk, MatchOption, true};
+
 use crate::Duo;
-use mux_items::{Call, ChannelKey, Phase, Tally};
-use mux_run::{DuoAnswer, EventList, Reply, Side, Step, StepList};
+use endpoint_run::{Call, DuoAnswer, EventList, Reply, Side, Step, StepList};
+use mux_items::{ChannelKey, Phase, Tally};
+use rpc_end::{Answer, Arguments, Encoding, Expect, Framing, Terms};
 use std::alloc::Global;
 use std::test::Fail;
-use wire_base::{Blob, OutOfMemory, Text, Version};
+use wire_base::{Blob, Datum, Id, Node, OutOfMemory, Text, Version, Whole};
 
 /// More than is ever in flight.
 const ALL: u64 = 1_000_000;
@@ -19,6 +24,14 @@ enum Move {
     Read(u64, u32),
     Complete(u64),
     Terminate(u64),
+    /// Messages go in pack behind their lengths.
+    Attach(u64),
+    /// A request of `add` without arguments.
+    Request(u64),
+    /// The answer 5 to the first request.
+    Respond(u64),
+    /// What became of the first request.
+    Outcome(u64),
     Deliver,
     End,
 }
@@ -42,7 +55,7 @@ fn live() -> [Row; 4] {
         (
             Side::B,
             Move::Deliver,
-            "10 [Mux(Offered(ChannelKey { id: 1, own: false }))]",
+            "10 [Happened(Mux(Offered(ChannelKey { id: 1, own: false })))]",
             b"",
         ),
         (
@@ -54,7 +67,7 @@ fn live() -> [Row; 4] {
         (
             Side::A,
             Move::Deliver,
-            "8 [Mux(Accepted(ChannelKey { id: 1, own: true }))]",
+            "8 [Happened(Mux(Accepted(ChannelKey { id: 1, own: true })))]",
             b"",
         ),
     ]
@@ -72,7 +85,7 @@ fn credit() -> [Row; 6] {
         (
             Side::B,
             Move::Deliver,
-            "10 [Mux(Content(ChannelKey { id: 1, own: false }, 4))]",
+            "10 [Happened(Mux(Content(ChannelKey { id: 1, own: false }, 4)))]",
             b"",
         ),
         (
@@ -84,13 +97,13 @@ fn credit() -> [Row; 6] {
         (
             Side::A,
             Move::Deliver,
-            "8 [Mux(Credit(ChannelKey { id: 1, own: true }, 2))]",
+            "8 [Happened(Mux(Credit(ChannelKey { id: 1, own: true }, 2)))]",
             b"\x94\x02\x01\x01\xc4\x01o",
         ),
         (
             Side::B,
             Move::Deliver,
-            "7 [Mux(Content(ChannelKey { id: 1, own: false }, 1))]",
+            "7 [Happened(Mux(Content(ChannelKey { id: 1, own: false }, 1)))]",
             b"",
         ),
         (
@@ -115,19 +128,19 @@ fn crossing() -> [Row; 6] {
         (
             Side::A,
             Move::Deliver,
-            "7 [Mux(Ignored(ChannelKey { id: 1, own: true }))]",
+            "7 [Happened(Mux(Ignored(ChannelKey { id: 1, own: true })))]",
             b"",
         ),
         (
             Side::B,
             Move::Deliver,
-            "4 [Mux(Closed(ChannelKey { id: 1, own: false }))]",
+            "4 [Happened(Mux(Closed(ChannelKey { id: 1, own: false })))]",
             b"\x93\x04\x01\xff",
         ),
         (
             Side::A,
             Move::Deliver,
-            "4 [Mux(Closed(ChannelKey { id: 1, own: true }))]",
+            "4 [Happened(Mux(Closed(ChannelKey { id: 1, own: true })))]",
             b"",
         ),
         (Side::A, Move::Write(1, "x"), "Refused(NoChannel) []", b""),
@@ -142,19 +155,19 @@ fn completions() -> [Row; 5] {
         (
             Side::B,
             Move::Deliver,
-            "4 [Mux(Completed(ChannelKey { id: 1, own: false }))]",
+            "4 [Happened(Mux(Completed(ChannelKey { id: 1, own: false })))]",
             b"\x93\x04\x01\xff",
         ),
         (
             Side::A,
             Move::Deliver,
-            "8 [Mux(Completed(ChannelKey { id: 1, own: true })), Mux(Closed(ChannelKey { id: 1, own: true }))]",
+            "8 [Happened(Mux(Completed(ChannelKey { id: 1, own: true }))), Happened(Mux(Closed(ChannelKey { id: 1, own: true })))]",
             b"\x93\x04\x01\x01",
         ),
         (
             Side::B,
             Move::Deliver,
-            "4 [Mux(Closed(ChannelKey { id: 1, own: false }))]",
+            "4 [Happened(Mux(Closed(ChannelKey { id: 1, own: false })))]",
             b"",
         ),
     ]
@@ -192,8 +205,8 @@ fn ends() -> [Row; 8] {
 /// In version 2, where A has the greater nonce.
 fn greetings() -> [Row; 3] {
     [
-        (Side::A, Move::Deliver, "22 [Mux(Ready)]", b""),
-        (Side::B, Move::Deliver, "22 [Mux(Ready)]", b""),
+        (Side::A, Move::Deliver, "22 [Happened(Mux(Ready))]", b""),
+        (Side::B, Move::Deliver, "22 [Happened(Mux(Ready))]", b""),
         (
             Side::A,
             Move::Offer(8),
@@ -239,7 +252,7 @@ fn two() -> [Row; 7] {
         (
             Side::B,
             Move::Deliver,
-            "20 [Mux(Offered(ChannelKey { id: 1, own: false })), Mux(Offered(ChannelKey { id: 2, own: false }))]",
+            "20 [Happened(Mux(Offered(ChannelKey { id: 1, own: false }))), Happened(Mux(Offered(ChannelKey { id: 2, own: false })))]",
             b"",
         ),
         (
@@ -257,7 +270,7 @@ fn two() -> [Row; 7] {
         (
             Side::A,
             Move::Deliver,
-            "20 [Mux(Accepted(ChannelKey { id: 1, own: true })), Mux(Accepted(ChannelKey { id: 2, own: true }))]",
+            "20 [Happened(Mux(Accepted(ChannelKey { id: 1, own: true }))), Happened(Mux(Accepted(ChannelKey { id: 2, own: true })))]",
             b"",
         ),
         (
@@ -269,6 +282,69 @@ fn two() -> [Row; 7] {
     ]
 }
 
+/// A request on a channel with windows of 100, and its answer. What is read is acknowledged.
+fn calls() -> [Row; 12] {
+    [
+        (
+            Side::A,
+            Move::Offer(100),
+            "Made(ChannelKey { id: 1, own: true }) []",
+            b"\x94\x00\x01\x01\xc4\x04\x92\xa1\x61\x64",
+        ),
+        (
+            Side::B,
+            Move::Deliver,
+            "10 [Happened(Mux(Offered(ChannelKey { id: 1, own: false })))]",
+            b"",
+        ),
+        (
+            Side::B,
+            Move::Accept(1, 100),
+            "Done []",
+            b"\x94\x01\x01\xff\xc4\x02\x91\x64",
+        ),
+        (
+            Side::A,
+            Move::Deliver,
+            "8 [Happened(Mux(Accepted(ChannelKey { id: 1, own: true })))]",
+            b"",
+        ),
+        (Side::A, Move::Attach(1), "Done []", b""),
+        (Side::B, Move::Attach(1), "Done []", b""),
+        (
+            Side::A,
+            Move::Request(1),
+            "Number(1) []",
+            b"\x94\x02\x01\x01\xc4\x20\0\0\0\x1c\x83\xa7jsonrpc\xa32.0\xa2id\x01\xa6method\xa3add",
+        ),
+        (Side::A, Move::Outcome(1), "NotYet []", b""),
+        (
+            Side::B,
+            Move::Deliver,
+            "38 [Happened(Mux(Content(ChannelKey { id: 1, own: false }, 32))), Happened(Rpc(ChannelKey { id: 1, own: false }, Asked(Number(1), Root, Text { inner: \"add\" }, Absent)))]",
+            b"\x94\x05\x01\xff\xc4\x02\x91\x20",
+        ),
+        (
+            Side::B,
+            Move::Respond(1),
+            "Done []",
+            b"\x94\x02\x01\xff\xc4\x1d\0\0\0\x19\x83\xa7jsonrpc\xa32.0\xa2id\x01\xa6result\x05",
+        ),
+        (
+            Side::A,
+            Move::Deliver,
+            "43 [Happened(Mux(Credit(ChannelKey { id: 1, own: true }, 32))), Happened(Mux(Content(ChannelKey { id: 1, own: true }, 29))), Happened(Rpc(ChannelKey { id: 1, own: true }, Answered(1)))]",
+            b"\x94\x05\x01\x01\xc4\x02\x91\x1d",
+        ),
+        (
+            Side::A,
+            Move::Outcome(1),
+            "Known(Replied(Datum { node: Whole(Whole { inner: 5 }) })) []",
+            b"",
+        ),
+    ]
+}
+
 fn key(side: Side, id: u64) -> ChannelKey {
     ChannelKey {
         id,
@@ -276,22 +352,67 @@ fn key(side: Side, id: u64) -> ChannelKey {
     }
 }
 
-fn call_of(alloc: Global, side: Side, makes: Move) -> Result<Option<Call>, OutOfMemory> {
+/// A call of the multiplexing end.
+fn mux_call_of(
+    alloc: Global,
+    side: Side,
+    makes: Move,
+) -> Result<Option<mux_items::Call>, OutOfMemory> {
     let call = match makes {
-        Move::Offer(window) => Call::Offer(Text::from_str(alloc, "a")?, window),
-        Move::Accept(id, window) => Call::Accept(key(side, id), window),
+        Move::Offer(window) => mux_items::Call::Offer(Text::from_str(alloc, "a")?, window),
+        Move::Accept(id, window) => mux_items::Call::Accept(key(side, id), window),
         Move::Write(id, text) => {
-            Call::Write(key(side, id), Blob::from_bytes(alloc, text.as_bytes())?)
+            mux_items::Call::Write(key(side, id), Blob::from_bytes(alloc, text.as_bytes())?)
         }
-        Move::Read(id, max) => Call::Read(key(side, id), max),
-        Move::Complete(id) => Call::Complete(key(side, id)),
-        Move::Terminate(id) => Call::Terminate(key(side, id)),
-        Move::Deliver | Move::End => return Ok(None),
+        Move::Read(id, max) => mux_items::Call::Read(key(side, id), max),
+        Move::Complete(id) => mux_items::Call::Complete(key(side, id)),
+        Move::Terminate(id) => mux_items::Call::Terminate(key(side, id)),
+        _ => return Ok(None),
     };
     Ok(Some(call))
 }
 
-fn step_of(alloc: Global, side: Side, makes: Move) -> Result<Step, OutOfMemory> {
+fn attach(key: ChannelKey) -> Call
+    ensures { is_built_call result ≡ true }
+{
+    let terms = Terms {
+        framing: Framing::Length,
+        encoding: Encoding::Pack,
+    };
+    Call::Attach(key, terms)
+}
+
+fn request(alloc: Global, key: ChannelKey) -> Result<Call, OutOfMemory>
+    ensures { IfOk result (λ c. is_built_call c ≡ true) }
+{
+    let method = Text::from_str(alloc, "add")?;
+    Ok(Call::Request(key, method, Arguments::Absent, Expect::Plain))
+}
+
+fn respond(key: ChannelKey) -> Call
+    ensures { is_built_call result ≡ true }
+{
+    let value = Datum {
+        node: Node::Whole(Whole::from_i64(5)),
+    };
+    Call::Respond(key, Id::Number(1), Answer::Value(value))
+}
+
+fn call_of(alloc: Global, side: Side, makes: Move) -> Result<Option<Call>, OutOfMemory>
+    ensures { IfOk result (λ o. MatchOption o (Unit {0}) (λ c. is_built_call c ≡ true)) }
+{
+    match makes {
+        Move::Attach(id) => Ok(Some(attach(key(side, id)))),
+        Move::Request(id) => Ok(Some(request(alloc, key(side, id))?)),
+        Move::Respond(id) => Ok(Some(respond(key(side, id)))),
+        Move::Outcome(id) => Ok(Some(Call::Outcome(key(side, id), 1))),
+        makes => Ok(mux_call_of(alloc, side, makes)?.map(Call::Mux)),
+    }
+}
+
+fn step_of(alloc: Global, side: Side, makes: Move) -> Result<Step, OutOfMemory>
+    ensures { IfOk result (λ s. is_built_step s ≡ true) }
+{
     match (makes, call_of(alloc, side, makes)?) {
         (_, Some(call)) => Ok(Step::Call(side, call)),
         (Move::End, None) => Ok(Step::End(side)),
@@ -336,7 +457,9 @@ fn world(alloc: Global, version: Version, nonces: [[u8; 16]; 2]) -> Result<Duo, 
     Duo::start(alloc, version, nonces)
 }
 
-fn make(duo: &mut Duo, step: Step) -> DuoAnswer {
+fn make(duo: &mut Duo, step: Step) -> DuoAnswer
+    requires { is_built_step step ≡ true }
+{
     duo.step(step)
 }
 
@@ -391,6 +514,18 @@ fn rows_on_one_channel(rt: HostRuntime) -> Result<(), Fail> {
     Ok(())
 }
 
+/// The first wrong one of the rows of a request.
+fn wrong_call(alloc: Global) -> Result<Option<usize>, Fail> {
+    let mut duo = world(alloc, Version::Three, [[0; 16]; 2])?;
+    first_wrong(alloc, &mut duo, &calls())
+}
+
+#[test]
+fn rows_of_a_request(rt: HostRuntime) -> Result<(), Fail> {
+    assert_eq!(rt; wrong_call(rt.alloc())?, None);
+    Ok(())
+}
+
 /// The first wrong one of rows that two ends of version 2 begin.
 fn wrong_in_two(alloc: Global, nonces: [[u8; 16]; 2], rows: &[Row]) -> Result<Option<usize>, Fail> {
     let mut duo = world(alloc, Version::Two, nonces)?;
@@ -426,10 +561,13 @@ fn two_frames(alloc: Global) -> Result<Vec<u8>, OutOfMemory> {
     Ok(bytes)
 }
 
-fn write_many(alloc: Global) -> Result<Call, OutOfMemory> {
+fn write_many(alloc: Global) -> Result<Call, OutOfMemory>
+    ensures { IfOk result (λ c. is_built_call c ≡ true) }
+{
     let mut bytes = Vec::new(alloc);
     fill(&mut bytes, 30_000)?;
-    Ok(Call::Write(key(Side::A, 2), Blob::from_bytes(alloc, &bytes)?))
+    let bytes = Blob::from_bytes(alloc, &bytes)?;
+    Ok(Call::Mux(mux_items::Call::Write(key(Side::A, 2), bytes)))
 }
 
 /// A channel that lacks credit holds up no other, on which 30,000 bytes go in two frames.
@@ -509,13 +647,17 @@ fn bytes_one_by_one_leave_the_same(rt: HostRuntime) -> Result<(), Fail> {
     Ok(())
 }
 
-fn one_step(alloc: Global) -> Result<StepList, OutOfMemory> {
+fn one_step(alloc: Global) -> Result<StepList, OutOfMemory>
+    ensures { IfOk result (λ steps. are_built_steps steps ≡ true) }
+{
     let mut steps = StepList::new(alloc);
     steps.push(step_of(alloc, Side::A, Move::Offer(8))?)?;
     Ok(steps)
 }
 
-fn run(alloc: Global, steps: StepList) -> Result<Duo, OutOfMemory> {
+fn run(alloc: Global, steps: StepList) -> Result<Duo, OutOfMemory>
+    requires { are_built_steps steps ≡ true }
+{
     Duo::run(alloc, Version::Three, [[0; 16]; 2], steps)
 }
 

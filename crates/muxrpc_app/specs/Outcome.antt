@@ -4,10 +4,9 @@ use Rattle.std.specs.Io.KnownBytes.{append_known}
 use Rattle.wire_base.specs.Causes.{Rose}
 use Rattle.wire_base.specs.declared.frame.Version.{Version}
 use Rattle.wire_base.specs.declared.reason.Reason.{Reason}
-use Rattle.mux_run.specs.declared.steps.Step.{Step}
 use Rattle.mux_run.specs.Run.{Terms}
-use Rattle.mux_run.specs.Safe.{IsSafeRun}
-use Rattle.mux_credit.specs.Runs.{KeepsCreditRun}
+use Rattle.endpoint_run.specs.declared.steps.Step.{Step}
+use Rattle.duo_world.specs.Stepping.{RunHolds}
 use Rattle.script.specs.Found.{script_in, reads, breaks}
 use Rattle.script.specs.Numbers.{script_reason_number}
 use Rattle.script.specs.declared.reason.ScriptReason.{ScriptReason}
@@ -38,13 +37,14 @@ pub record ReadScript (old new : SourceState) : Type 0 where
 abbrev pub text_of : {old new : SourceState} → ReadScript old new → List ℕ
 text_of s = report_text s.terms s.steps
 
--- the output has grown by exactly the report of the run of the script that was read, and that run is safe and keeps its credit
+-- the output has grown by exactly the report of the run of the script that was read, and what holds of every run holds of
+-- that one: at every moment it is safe, keeps its credit and has one outcome for each request, connections exchange messages
+-- in order, and at its end nothing whole is left to either side
 pub record ReplayDone (old new : SourceState) (before after : SinkState) : Type 0 where
   pub script : ReadScript old new
   pub written : after.given ≡ append_known before.given (text_of script)
   pub flushed : after.flushed ≡ true
-  pub safe : IsSafeRun script.terms script.steps
-  pub credit : KeepsCreditRun script.terms script.steps
+  pub holds : RunHolds script.terms script.steps
 
 -- writing failed: a front of the report is written
 pub record WritingFailed (old new : SourceState) (before after : SinkState) : Type 0 where

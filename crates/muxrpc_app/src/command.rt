@@ -3,7 +3,7 @@
 ghost use Rattle.std.specs.Prelude.{◌≡◌, ◌≤◌, ◌⊎◌, ℕ, List, length, Some};
 ghost use Rattle.wire_base.specs.Causes.{Rose};
 ghost use Rattle.mux_run.specs.Run.{Terms};
-ghost use Rattle.mux_run.specs.declared.steps.Step.{Step};
+ghost use Rattle.endpoint_run.specs.declared.steps.Step.{Step};
 ghost use Rattle.script.specs.Found.{script_in, reads};
 ghost use Rattle.stream_view.specs.View.{view_refusal};
 ghost use Rattle.wire_base.specs.declared.frame.Version.{Version};

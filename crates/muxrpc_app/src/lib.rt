@@ -2,6 +2,8 @@
 #![tactic(auto)]
 
 mod command;
+#[cfg(test)]
+mod connection_rows;
 mod input;
 mod output;
 mod replay;

@@ -1,7 +1,8 @@
 //! The command `replay`.
 
-ghost use Rattle.std.specs.Prelude.{◌≡◌, IfOk};
+ghost use Rattle.std.specs.Prelude.{◌≡◌, true, IfOk};
 ghost use Rattle.mux_run.specs.Run.{terms_of};
+ghost use Rattle.endpoint_run.specs.Answers.{are_built_steps};
 ghost use Rattle.transcript.specs.Report.{report_text};
 ghost use Rattle.muxrpc_app.specs.Outcome.{Replayed};
 
@@ -14,6 +15,7 @@ use wire_base::{Failed, OutOfMemory, Sink, Source};
 
 /// The report of the run of a script.
 fn report_of(alloc: Global, script: Script) -> Result<Vec<u8>, OutOfMemory>
+    requires { are_built_steps script.steps ≡ true }
     ensures { IfOk result (λ text. text.items ≡ report_text (terms_of script.version script.nonces) script.steps) }
 {
     let mut text = Vec::new(alloc);

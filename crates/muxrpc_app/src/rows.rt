@@ -293,7 +293,7 @@ end
 ";
 
 /// The report of a script; nothing where the status isn't `Done`.
-fn reported(alloc: Global, script: &[u8]) -> Result<Vec<u8>, Fail> {
+pub fn reported(alloc: Global, script: &[u8]) -> Result<Vec<u8>, Fail> {
     let words = texts(alloc, REPLAY)?;
     let mut input = source(alloc, script, &[])?;
     let mut output = sink(alloc, &[])?;
@@ -309,7 +309,7 @@ fn is_done(alloc: Global, words: &[Text], input: &mut MemSource, output: &mut Me
 }
 
 /// The number of the first script whose report is another.
-fn first_other(
+pub fn first_other(
     alloc: Global,
     rows: &[(&'static str, &'static str)],
 ) -> Result<Option<usize>, Fail> {

@@ -106,7 +106,7 @@ fn first_other(alloc: Global, rows: &[Row]) -> Result<Option<usize>, Fail> {
 #[test]
 fn words_and_scripts_are_refused(rt: HostRuntime) -> Result<(), Fail> {
     let usage = "muxrpc: usage\n";
-    let rows: [Row; 12] = [
+    let rows: [Row; 13] = [
         (REPLAY, EMPTY, 0, ""),
         (&[], EMPTY, 1, usage),
         (&["muxrpc"], EMPTY, 1, usage),
@@ -121,9 +121,15 @@ fn words_and_scripts_are_refused(rt: HostRuntime) -> Result<(), Fail> {
         ),
         (
             REPLAY,
-            "script 1\nversion 3\nattach A A1 header json\n",
+            "script 1\nversion 3\ncancel A A1 1\n",
             2,
             "muxrpc: line 3: 94\n",
+        ),
+        (
+            REPLAY,
+            "script 1\nversion 3\nend A\nresult B A1 1 {\n",
+            2,
+            "muxrpc: line 4: 93\n",
         ),
         (
             REPLAY,

@@ -1,5 +1,6 @@
 pub mod TextLemmas
 pub mod LineLemmas
+pub mod RestTexts
 pub mod LineTexts
 pub mod StepWords
 pub mod StepLines

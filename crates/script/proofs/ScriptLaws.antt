@@ -1,40 +1,40 @@
 -- Scripts and their texts.
-use Rattle.std.proofs.Common.{◌≡◌, ◌≢◌, ℕ, ◌+◌, ◌≤◌, ◌⊎◌, inl, inr, true, List, [], ◌∷◌, ◌++◌, length, length-append, map, refl, Err, sym, ap, ap₂, subst, ◌∙◌, arith, append_assoc}
+use Rattle.std.proofs.Common.{◌≡◌, ◌≢◌, ℕ, ◌+◌, ◌≤◌, ◌⊎◌, inl, inr, true, false, List, [], ◌∷◌, ◌++◌, length, length-append, map, refl, Err, sym, ap, ap₂, subst, ◌∙◌, arith, append_assoc}
 use Rattle.std.specs.Prelude.{◌↔◌}
 use Rattle.std.specs.List.{list_all}
 use Rattle.std.proofs.lemmas.Bool.{and_parts}
 use Rattle.std.proofs.lemmas.List.{append-nil, length-map, map-append}
 use Rattle.std.proofs.lemmas.List.Folds.{list_all-append}
 use Rattle.mux_run.specs.Run.{Terms}
-use Rattle.mux_run.specs.declared.steps.Step.{Step}
+use Rattle.endpoint_run.specs.declared.steps.Step.{Step}
 use Rattle.script.specs.declared.reason.ScriptReason.{ScriptReason}
 use Rattle.script.specs.declared.reason.ScriptReason.TheVariants as reason
 use Rattle.text_words.specs.Written.{is_line_text}
 use Rattle.text_words.specs.Reading.{words_of}
 use Rattle.text_words.proofs.ByteTests.{and_true}
 use Rattle.text_words.proofs.Joined.{line-words}
-use Rattle.script.specs.Spelling.{StepLine, AreTerms, AreScripted, is_spellable, step_of, line_text, line_words, steps_of, filled_in, script_lines, script_text, head_lines, head_text}
+use Rattle.script.specs.Spelling.{StepLine, AreTerms, AreScripted, is_spellable, is_worded, step_of, line_text, steps_of, filled_in, script_lines, script_text, head_lines, head_text}
 use Rattle.script.specs.Lines.{TextLine, lines_of, whole_line}
-use Rattle.script.specs.Steps.{step_in, begins_step}
-use Rattle.script.specs.Rules.{IsHeadRefused, IsStepRefused}
+use Rattle.script.specs.Steps.{step_in, begins_step, begins_later}
+use Rattle.script.specs.Rules.{IsHeadRefused, IsStepRefused, IsWorded, IsUnbuilt}
 use Rattle.script.specs.Found.{reads, breaks, steps_from, script_from, script_in, IsScriptOf}
 use Rattle.script.proofs.LineTexts.{lacks_feed, lines_of-lack, lines_of-lines, text_of-lines}
-use Rattle.script.proofs.StepLines.{line_text-text, line_text-words, line_of_words}
-use Rattle.script.proofs.StepWords.{step_in-words, step_in-ok, bad_or_step}
-use Rattle.script.proofs.StepRules.{step_in-err, breaks_step, step_refused}
+use Rattle.script.proofs.StepLines.{line_text-text}
+use Rattle.script.proofs.StepWords.{worded, Meant, meant}
+use Rattle.script.proofs.StepRules.{has_bad_word, gives_bad_word, has_bad_json, gives_bad_json, is_not_built, gives_not_built, breaks_step, step_refused}
 use Rattle.script.proofs.HeadLines.{head_lines-texts}
 use Rattle.script.proofs.HeadRules.{refused_within, refused_once, refused_headless}
 use Rattle.script.proofs.Heads.{head_goes_on, head_cases}
 use Rattle.script.proofs.Scripts.{whole_lines, from_lines-lines, from_lines-reads, from_lines-breaks}
 
 none_scripted : AreScripted []
-none_scripted = record { spellable = refl; few = omega arith; within = omega arith }
+none_scripted = record { spellable = refl; built = refl; few = omega arith; within = omega arith }
 
 step_texts : (lines : List StepLine) → list_all is_spellable lines ≡ true → list_all is_line_text (map line_text lines) ≡ true
 step_texts [] h = refl
 step_texts (line ∷ lines) h =
     let p = and_parts (is_spellable line) (list_all is_spellable lines) h in
-    and_true (is_line_text (line_text line)) (list_all is_line_text (map line_text lines)) (line_text-text line p.0) (step_texts lines p.1)
+    and_true (is_line_text (line_text line)) (list_all is_line_text (map line_text lines)) (line_text-text line (worded line p.0)) (step_texts lines p.1)
 
 script_lines-texts : (terms : Terms) (lines : List StepLine) → AreTerms terms → list_all is_spellable lines ≡ true → list_all is_line_text (script_lines terms lines) ≡ true
 script_lines-texts terms lines h spelled = rw (list_all-append is_line_text (head_lines terms) (map line_text lines), head_lines-texts terms h, step_texts lines spelled) refl
@@ -108,6 +108,7 @@ is_refused bytes number why h = elim (head_cases (lines_of bytes)) [
       let broken = from_lines-breaks head.terms [] (length (head_lines head.terms) + 1) head.rest number why none_scripted lacks all in
       let place = broken.place in
       let counted = length-script_lines head.terms broken.more in
+      let lacks_line = lacks_behind (map line_text broken.more) (broken.line ∷ broken.later) (rw (broken.is) at lacks) in
       inr (record {
         terms = head.terms;
         before = broken.more;
@@ -117,7 +118,7 @@ is_refused bytes number why h = elim (head_cases (lines_of bytes)) [
         scripted = broken.scripted;
         is = head.is ∙ (ap (λ rest. map whole_line (head_lines head.terms) ++ rest) broken.is ∙ sym (behind_head head.terms broken.more (broken.line ∷ broken.later)));
         place = omega arith;
-        breaks_rule = breaks_step why broken.line broken.more broken.scripted.few broken.broken;
+        breaks_rule = breaks_step why broken.line broken.more (and_parts (lacks_feed broken.line) (list_all lacks_feed broken.later) lacks_line).0 broken.scripted.few broken.broken;
       })
 ]
 
@@ -131,7 +132,7 @@ refuses_step : (bytes : List ℕ) (number : ℕ) (why : ScriptReason) → IsStep
 refuses_step bytes number why h =
     let lacks = lacks_behind (script_lines h.terms h.before) (h.line ∷ h.rest) (rw (h.is) at (lines_of-lack bytes)) in
     let line = and_parts (lacks_feed h.line) (list_all lacks_feed h.rest) lacks in
-    let broken = step_refused why h.line h.before line.0 h.breaks_rule in
+    let broken = step_refused why h.line h.before line.0 h.scripted.within h.breaks_rule in
     let steps = length-map h.before step_of in
     let counted = length-script_lines h.terms h.before in
     let place : length h.before + length (head_lines h.terms) + 1 ≡ number = omega (arith, h.place) in
@@ -150,21 +151,22 @@ headless bytes number why h = (
       refused_headless (lines_of bytes) number why h terms (lines_of rest) are (ap lines_of same ∙ lines_of-lines (head_lines terms) rest (head_lines-texts terms are)),
 )
 
-no_bad_word : (line : StepLine) → is_spellable line ≡ true → step_in (line_words line) ≢ Err reason.BadWord
-no_bad_word line spelled h = let e = step_in-words line spelled in cc
+-- ---- why a line means nothing
 
--- a line has a bad word exactly if it begins with a step word and is the text of no step
+words_meant : (text : List ℕ) → is_line_text text ≡ true → Meant (words_of text)
+words_meant text is_line = meant (words_of text) (line-words text is_line)
+
+-- a line has a bad word exactly if it begins with a step word and no step with such words has its text
 pub bad_word : (text : List ℕ) → is_line_text text ≡ true → (step_in (words_of text) ≡ Err reason.BadWord)
-    ↔ ((begins_step (words_of text) ≡ true) × ((line : StepLine) → is_spellable line ≡ true → line_text line ≢ text))
-bad_word text is_line = (
-  λ h. (
-    step_in-err (words_of text) reason.BadWord h,
-    λ line spelled same. no_bad_word line spelled (sym (ap step_in (line_text-words line spelled)) ∙ ap (λ t. step_in (words_of t)) same ∙ h),
-  ),
-  λ p. elim (bad_or_step (words_of text) p.0) [
-    | inl h ↦ h
-    | inr q ↦
-        let read = step_in-ok (words_of text) q.0 (line-words text is_line) q.1 in
-        absurd (p.1 read.line read.spellable (line_of_words text read.line read.is))
-  ],
-)
+    ↔ ((begins_step (words_of text) ≡ true) × ((line : StepLine) → is_worded line ≡ true → line_text line ≢ text))
+bad_word text is_line = (has_bad_word text (words_meant text is_line), λ p. gives_bad_word text p.0 p.1 (words_meant text is_line))
+
+-- a line is refused for its rest exactly if its words are of their forms and it is the text of no step
+pub bad_json : (text : List ℕ) → is_line_text text ≡ true → (step_in (words_of text) ≡ Err reason.BadJson)
+    ↔ (IsWorded text × ((line : StepLine) → is_spellable line ≡ true → line_text line ≢ text))
+bad_json text is_line = (has_bad_json text (words_meant text is_line), λ p. gives_bad_json text p.0 p.1)
+
+-- a line isn't built exactly if it begins with a step word that has no step, or is the text of a step that isn't built
+pub not_built : (text : List ℕ) → is_line_text text ≡ true → (step_in (words_of text) ≡ Err reason.NotBuilt)
+    ↔ ((begins_step (words_of text) ≡ false) × (begins_later (words_of text) ≡ true) ⊎ IsUnbuilt text)
+not_built text is_line = (is_not_built text (words_meant text is_line), gives_not_built text)

@@ -6,6 +6,7 @@ use Rattle.std.proofs.lemmas.Bool.{and_parts}
 use Rattle.std.proofs.lemmas.Bool.Decides.{nat_tests}
 use Rattle.std.proofs.lemmas.List.Splits.{join_with_byte-slice_split}
 use Rattle.std.proofs.lemmas.Str.{IsUtf8-from_is_utf8}
+use Rattle.endpoint_run.specs.Answers.{is_built_step}
 use Rattle.text_words.specs.Bytes.{space}
 use Rattle.text_words.specs.Reading.{words_of}
 use Rattle.text_words.specs.Written.{is_line_text, stands_in_line}
@@ -16,25 +17,25 @@ use Rattle.script.specs.declared.reason.ScriptReason.{ScriptReason}
 use Rattle.script.specs.declared.reason.ScriptReason.TheVariants as reason
 use Rattle.script.specs.Limits.{most_steps, most_filled}
 use Rattle.script.specs.Lines.{TextLine, whole_line}
-use Rattle.script.specs.Spelling.{StepLine, line_text, line_words, is_spellable, filled_by}
-use Rattle.script.specs.Table.{meaning}
+use Rattle.script.specs.Spelling.{StepLine, meant_by, step_of, line_text, line_words, is_spellable, is_worded, filled_by}
 use Rattle.script.specs.Steps.{on_ok, text_in, filling, step_in, step_after}
 use Rattle.script.proofs.TextLemmas.{text_in-ended}
 use Rattle.script.proofs.LineTexts.{lacks_feed}
-use Rattle.script.proofs.StepWords.{line_words-texts, step_in-words, step_in-ok}
+use Rattle.script.proofs.StepWords.{worded, line_words-texts, step_in-built, Meant, unknown, later, bad_word, malformed, unbuilt, means, meant}
 
-pub line_text-text : (line : StepLine) → is_spellable line ≡ true → is_line_text (line_text line) ≡ true
+pub line_text-text : (line : StepLine) → is_worded line ≡ true → is_line_text (line_text line) ≡ true
 line_text-text line h = joined-text (line_words line) (line_words-texts line h)
 
-pub line_text-words : (line : StepLine) → is_spellable line ≡ true → words_of (line_text line) ≡ line_words line
+line_text-words : (line : StepLine) → is_worded line ≡ true → words_of (line_text line) ≡ line_words line
 line_text-words line h = joined-words _ _ (line_words-texts line h)
 
-text_in-line : (line : StepLine) → is_spellable line ≡ true → text_in (whole_line (line_text line)) ≡ Ok (line_text line)
+text_in-line : (line : StepLine) → is_worded line ≡ true → text_in (whole_line (line_text line)) ≡ Ok (line_text line)
 text_in-line line h =
     text_in-ended (whole_line (line_text line)) (IsUtf8-from_is_utf8 (line_text line) (and_parts (is_utf8 (line_text line)) (list_all stands_in_line (line_text line)) (line_text-text line h)).0) refl
 
-pub step_in-line : (line : StepLine) → is_spellable line ≡ true → step_in (words_of (line_text line)) ≡ Ok (meaning line.word line.values)
-step_in-line line h = ap step_in (line_text-words line h) ∙ step_in-words line h
+-- the words of a text that is a line
+pub words_of_text : (text : List ℕ) (line : StepLine) → is_worded line ≡ true → line_text line ≡ text → words_of text ≡ line_words line
+words_of_text text line h same = ap words_of (sym same) ∙ line_text-words line h
 
 -- a line with these words
 pub line_of_words : (text : List ℕ) (line : StepLine) → words_of text ≡ line_words line → line_text line ≡ text
@@ -47,12 +48,14 @@ filling-ok filled l h =
     rw room refl
 
 -- the line of a step that may stand there
-pub step_after-line : (steps filled : ℕ) (line : StepLine) → is_spellable line ≡ true → steps < most_steps → filled + filled_by line ≤ most_filled
-    → step_after steps filled (whole_line (line_text line)) ≡ Ok (meaning line.word line.values)
+pub step_after-line : (steps filled : ℕ) (line : StepLine) → is_spellable line ≡ true → is_built_step (step_of line) ≡ true → steps < most_steps → filled + filled_by line ≤ most_filled
+    → step_after steps filled (whole_line (line_text line)) ≡ Ok (meant_by line)
 unfolding step_after
-step_after-line steps filled line h few within =
+step_after-line steps filled line h built few within =
     let room : ltb steps most_steps ≡ true = grind (arith, nat_tests) in
-    rw (text_in-line line h, room, step_in-line line h) (filling-ok filled (meaning line.word line.values) within)
+    let w = worded line h in
+    let read : step_in (words_of (line_text line)) ≡ Ok (meant_by line) = ap step_in (line_text-words line w) ∙ step_in-built line h built in
+    rw (text_in-line line w, room, read) (filling-ok filled (meant_by line) within)
 
 pub on_ok-ok : {X Y : Type 0} (r : Result X ScriptReason) (f : X → Result Y ScriptReason) (y : Y) → on_ok r f ≡ Ok y → (x : X) × (r ≡ Ok x) × (f x ≡ Ok y)
 on_ok-ok (Ok x) f y h = (x, refl, h)
@@ -86,7 +89,8 @@ pub record IsStepLine (steps filled : ℕ) (line : TextLine) (l : LineStep) : Ty
   pub end : line.has_end ≡ true
   pub text : line.text ≡ line_text spelled
   pub spellable : is_spellable spelled ≡ true
-  pub means : meaning spelled.word spelled.values ≡ l
+  pub built : is_built_step (step_of spelled) ≡ true
+  pub means : meant_by spelled ≡ l
   pub few : steps < most_steps
   pub within : filled + l.filled ≤ most_filled
 
@@ -101,6 +105,24 @@ filling_parts filled l m h =
     let given : Ok l ≡ Ok m = p.1 in
     (cc, grind (arith, nat_tests))
 
+-- words that mean a step are those of its line
+pub record IsRead (words : List (List ℕ)) (l : LineStep) : Type 0 where
+  pub line : StepLine
+  pub is : words ≡ line_words line
+  pub spellable : is_spellable line ≡ true
+  pub built : is_built_step (step_of line) ≡ true
+  pub means : meant_by line ≡ l
+
+is_read : (words : List (List ℕ)) (l : LineStep) → step_in words ≡ Ok l → Meant words → IsRead words l
+is_read words l h (unknown b c e) = cc (sym e ∙ h)
+is_read words l h (later b c e) = cc (sym e ∙ h)
+is_read words l h (bad_word b e) = cc (sym e ∙ h)
+is_read words l h (malformed line is w bad e) = cc (sym e ∙ h)
+is_read words l h (unbuilt line is spelled b e) = cc (sym e ∙ h)
+is_read words l h (means line is spelled b e) =
+    let same : Ok (meant_by line) ≡ Ok l = sym e ∙ h in
+    record { line = line; is = is; spellable = spelled; built = b; means = cc }
+
 pub step_after-ok : (steps filled : ℕ) (line : TextLine) (l : LineStep) → lacks_feed line ≡ true → step_after steps filled line ≡ Ok l → IsStepLine steps filled line l
 unfolding step_after
 step_after-ok steps filled line l lacks h =
@@ -111,12 +133,14 @@ step_after-ok steps filled line l lacks h =
     let f = filling_parts filled r.0 l r.2 in
     let same : r.0 ≡ l = f.0 in
     let lacks_text : list_all stands_in_line t.0 ≡ true = rw (w.same) at lacks in
-    let read = step_in-ok (words_of t.0) r.0 (line-words t.0 (and_true (is_utf8 t.0) (list_all stands_in_line t.0) w.utf8 lacks_text)) r.1 in
+    let texts = line-words t.0 (and_true (is_utf8 t.0) (list_all stands_in_line t.0) w.utf8 lacks_text) in
+    let read = is_read (words_of t.0) r.0 r.1 (meant (words_of t.0) texts) in
     record {
       spelled = read.line;
       end = w.end;
       text = w.same ∙ (sym (join_with_byte-slice_split space t.0) ∙ ap (join_with_byte space) read.is);
       spellable = read.spellable;
+      built = read.built;
       means = read.means ∙ same;
       few = below steps room.0;
       within = rw same at (f.1);

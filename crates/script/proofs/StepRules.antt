@@ -1,10 +1,8 @@
 -- The rule that the line of a step breaks.
-use Rattle.std.proofs.Common.{◌≡◌, ℕ, ◌+◌, ◌<◌, ◌≤◌, Bool, true, false, cond, ltb, leb, inl, inr, List, [], ◌∷◌, length, refl, Option, Some, None, Result, Ok, Err, sym, ap, subst, ◌∙◌, arith}
-use Rattle.std.specs.Option.{ok_or, option_map}
-use Rattle.std.specs.List.{list_all, list_any}
-use Rattle.std.specs.Str.{is_utf8, bytes_eq}
+use Rattle.std.proofs.Common.{◌≡◌, ◌≢◌, ℕ, ◌+◌, ◌<◌, ◌≤◌, ◌⊎◌, true, false, leb, ltb, inl, inr, List, length, refl, Result, Ok, Err, sym, ap, subst, ◌∙◌, arith}
+use Rattle.std.specs.List.{list_all}
+use Rattle.std.specs.Str.{is_utf8}
 use Rattle.std.proofs.lemmas.Bool.Decides.{nat_tests}
-use Rattle.text_words.specs.Forms.{FormValues, read_forms}
 use Rattle.text_words.specs.Reading.{words_of}
 use Rattle.text_words.specs.Written.{stands_in_line}
 use Rattle.text_words.proofs.ByteTests.{tested, and_true}
@@ -12,82 +10,70 @@ use Rattle.text_words.proofs.Joined.{line-words}
 use Rattle.script.specs.declared.line_step.LineStep.{LineStep}
 use Rattle.script.specs.declared.reason.ScriptReason.{ScriptReason}
 use Rattle.script.specs.declared.reason.ScriptReason.TheVariants as reason
-use Rattle.script.specs.declared.step_word.StepWord.{StepWord}
 use Rattle.script.specs.Limits.{most_steps, most_filled}
 use Rattle.script.specs.Lines.{TextLine}
-use Rattle.script.specs.Table.{word_text, forms_of, meaning, step_words}
-use Rattle.script.specs.Spelling.{StepLine, line_text, is_spellable, filled_by, filled_in}
-use Rattle.script.specs.Steps.{on_ok, text_in, filling, word_among, step_word_in, is_later, step_by, step_behind, step_in, step_after, begins_step, begins_later}
-use Rattle.script.specs.Rules.{MayBeStep, BreaksStepRule}
+use Rattle.script.specs.Spelling.{StepLine, meant_by, line_text, line_words, is_spellable, is_worded, filled_by, filled_in}
+use Rattle.script.specs.Steps.{on_ok, text_in, filling, step_in, step_after, begins_step, begins_later}
+use Rattle.script.specs.Rules.{MayBeStep, IsWorded, IsUnbuilt, BreaksStepRule}
 use Rattle.script.proofs.HeadLines.{err_same}
 use Rattle.script.proofs.LineTexts.{lacks_feed}
-use Rattle.script.proofs.StepLines.{step_in-line, line_of_words}
-use Rattle.script.proofs.StepWords.{begins_by, step_in-ok, bad_or_step}
+use Rattle.script.proofs.StepLines.{words_of_text, line_of_words}
+use Rattle.script.proofs.StepWords.{worded, Meant, unknown, later, bad_word, malformed, unbuilt, means, meant, line_begins, no_bad_word, no_bad_json, bad_json, not_built, same_step, step_in-other, malformed_fills_nothing, unbuilt_fills_nothing}
 
--- ---- why words mean nothing
+-- ---- why a text means nothing
 
--- for each reason, how such words begin
-abbrev pub Begins : ScriptReason → List (List ℕ) → Type 0
-Begins reason.UnknownStep words = (begins_step words ≡ false) × (begins_later words ≡ false)
-Begins reason.NotBuilt words = (begins_step words ≡ false) × (begins_later words ≡ true)
-Begins reason.BadWord words = begins_step words ≡ true
-Begins why words = ⊥
+-- what a text means that is a line
+text_means : (text : List ℕ) (line : StepLine) → is_worded line ≡ true → line_text line ≡ text → step_in (words_of text) ≡ step_in (line_words line)
+text_means text line h same = ap step_in (words_of_text text line h same)
 
-among_none : (ws : List StepWord) (text : List ℕ) → word_among ws text ≡ None → list_any (λ w. bytes_eq text (word_text w)) ws ≡ false
-among_none [] text h = refl
-among_none (w ∷ ws) text h = elim (tested (bytes_eq text (word_text w))) [
-  | inl e ↦ cc (rw e at h)
-  | inr e ↦ rw e (among_none ws text (rw e at h))
-]
+no_line_of : (text : List ℕ) → step_in (words_of text) ≡ Err reason.BadWord → (line : StepLine) → is_worded line ≡ true → line_text line ≢ text
+no_line_of text e line h same = no_bad_word line h (sym (text_means text line h same) ∙ e)
 
-none_among : (ws : List StepWord) (text : List ℕ) → list_any (λ w. bytes_eq text (word_text w)) ws ≡ false → word_among ws text ≡ None
-none_among [] text h = refl
-none_among (w ∷ ws) text h = elim (tested (bytes_eq text (word_text w))) [
-  | inl e ↦ cc (rw e at h)
-  | inr e ↦ rw e (none_among ws text (rw e at h))
-]
+no_spellable_line_of : (text : List ℕ) → step_in (words_of text) ≡ Err reason.BadJson → (line : StepLine) → is_spellable line ≡ true → line_text line ≢ text
+no_spellable_line_of text e line h same = no_bad_json line h (sym (text_means text line (worded line h) same) ∙ e)
 
-bad_by : (w : StepWord) (words : List (List ℕ)) (o : Option (FormValues (forms_of w))) (why : ScriptReason) → ok_or (option_map (meaning w) o) reason.BadWord ≡ Err why → why ≡ reason.BadWord
-bad_by w words (Some xs) why h = cc h
-bad_by w words None why h = err_same reason.BadWord why _ refl h
+pub has_bad_word : (text : List ℕ) → Meant (words_of text) → step_in (words_of text) ≡ Err reason.BadWord
+    → (begins_step (words_of text) ≡ true) × ((line : StepLine) → is_worded line ≡ true → line_text line ≢ text)
+has_bad_word text (unknown b c e) h = cc (sym e ∙ h)
+has_bad_word text (later b c e) h = cc (sym e ∙ h)
+has_bad_word text (bad_word b e) h = (b, no_line_of text e)
+has_bad_word text (malformed line is w bad e) h = cc (sym e ∙ h)
+has_bad_word text (unbuilt line is spelled b e) h = cc (sym e ∙ h)
+has_bad_word text (means line is spelled b e) h = cc (sym e ∙ h)
 
-step_behind-err : (first : List ℕ) (words : List (List ℕ)) (o : Option StepWord) (why : ScriptReason) → step_word_in first ≡ o → step_behind first o words ≡ Err why → Begins why (first ∷ words)
-unfolding step_by step_word_in
-step_behind-err first words (Some w) why e h =
-    let P : ScriptReason → Type 0 = λ why. Begins why (first ∷ words) in
-    subst P (sym (bad_by w words (read_forms (forms_of w) words) why h)) (begins_by step_words first w e)
-step_behind-err first words None why e h =
-    let P : ScriptReason → Type 0 = λ why. Begins why (first ∷ words) in
-    elim (tested (is_later first)) [
-      | inl later ↦ subst P (sym (err_same reason.NotBuilt why _ refl (rw later at h))) (among_none step_words first e, later)
-      | inr later ↦ subst P (sym (err_same reason.UnknownStep why _ refl (rw later at h))) (among_none step_words first e, later)
-    ]
+pub gives_bad_word : (text : List ℕ) → begins_step (words_of text) ≡ true → ((line : StepLine) → is_worded line ≡ true → line_text line ≢ text) → Meant (words_of text)
+    → step_in (words_of text) ≡ Err reason.BadWord
+gives_bad_word text begins none (unknown b c e) = cc (sym b ∙ begins)
+gives_bad_word text begins none (later b c e) = cc (sym b ∙ begins)
+gives_bad_word text begins none (bad_word b e) = e
+gives_bad_word text begins none (malformed line is w bad e) = absurd (none line w (line_of_words text line is))
+gives_bad_word text begins none (unbuilt line is spelled b e) = absurd (none line (worded line spelled) (line_of_words text line is))
+gives_bad_word text begins none (means line is spelled b e) = absurd (none line (worded line spelled) (line_of_words text line is))
 
-pub step_in-err : (words : List (List ℕ)) (why : ScriptReason) → step_in words ≡ Err why → Begins why words
-unfolding step_in
-step_in-err [] why h = let P : ScriptReason → Type 0 = λ why. Begins why [] in subst P (sym (err_same reason.UnknownStep why _ refl h)) (refl, refl)
-step_in-err (first ∷ words) why h = step_behind-err first words (step_word_in first) why refl h
+pub has_bad_json : (text : List ℕ) → Meant (words_of text) → step_in (words_of text) ≡ Err reason.BadJson
+    → IsWorded text × ((line : StepLine) → is_spellable line ≡ true → line_text line ≢ text)
+has_bad_json text (unknown b c e) h = cc (sym e ∙ h)
+has_bad_json text (later b c e) h = cc (sym e ∙ h)
+has_bad_json text (bad_word b e) h = cc (sym e ∙ h)
+has_bad_json text (malformed line is w bad e) h = ((line, w, line_of_words text line is), no_spellable_line_of text e)
+has_bad_json text (unbuilt line is spelled b e) h = cc (sym e ∙ h)
+has_bad_json text (means line is spelled b e) h = cc (sym e ∙ h)
 
--- words that mean a step begin with its step word
-ok_behind : (first : List ℕ) (words : List (List ℕ)) (o : Option StepWord) (l : LineStep) → step_word_in first ≡ o → step_behind first o words ≡ Ok l → begins_step (first ∷ words) ≡ true
-unfolding step_word_in
-ok_behind first words (Some w) l e h = begins_by step_words first w e
-ok_behind first words None l e h = elim (tested (is_later first)) [
-  | inl later ↦ cc (rw later at h)
-  | inr later ↦ cc (rw later at h)
-]
+pub gives_bad_json : (text : List ℕ) → IsWorded text → ((line : StepLine) → is_spellable line ≡ true → line_text line ≢ text) → step_in (words_of text) ≡ Err reason.BadJson
+gives_bad_json text p none = text_means text p.0 p.1 p.2 ∙ bad_json p.0 p.1 (λ spelled. none p.0 spelled p.2)
 
-ok_begins : (words : List (List ℕ)) (l : LineStep) → step_in words ≡ Ok l → begins_step words ≡ true
-unfolding step_in
-ok_begins [] l h = cc h
-ok_begins (first ∷ words) l h = ok_behind first words (step_word_in first) l refl h
+pub is_not_built : (text : List ℕ) → Meant (words_of text) → step_in (words_of text) ≡ Err reason.NotBuilt
+    → (begins_step (words_of text) ≡ false) × (begins_later (words_of text) ≡ true) ⊎ IsUnbuilt text
+is_not_built text (unknown b c e) h = cc (sym e ∙ h)
+is_not_built text (later b c e) h = inl (b, c)
+is_not_built text (bad_word b e) h = cc (sym e ∙ h)
+is_not_built text (malformed line is w bad e) h = cc (sym e ∙ h)
+is_not_built text (unbuilt line is spelled b e) h = inr (line, spelled, line_of_words text line is, b)
+is_not_built text (means line is spelled b e) h = cc (sym e ∙ h)
 
-step_in-other : (words : List (List ℕ)) (later : Bool) → begins_step words ≡ false → begins_later words ≡ later → step_in words ≡ Err (cond later reason.NotBuilt reason.UnknownStep)
-unfolding step_in step_word_in
-step_in-other [] true none h = cc h
-step_in-other [] false none h = refl
-step_in-other (first ∷ words) true none h = rw (none_among step_words first none, h) refl
-step_in-other (first ∷ words) false none h = rw (none_among step_words first none, h) refl
+pub gives_not_built : (text : List ℕ) → (begins_step (words_of text) ≡ false) × (begins_later (words_of text) ≡ true) ⊎ IsUnbuilt text → step_in (words_of text) ≡ Err reason.NotBuilt
+gives_not_built text (inl p) = step_in-other (words_of text) true p.0 p.1
+gives_not_built text (inr p) = text_means text p.0 (worded p.0 p.1) p.2 ∙ not_built p.0 p.1 p.3
 
 -- ---- the rule of a line
 
@@ -105,47 +91,52 @@ filling-over filled l h =
     rw room refl
 
 -- what the words of a line mean is what its step fills in
-same_filled : (line : TextLine) (l : LineStep) (step : StepLine) → step_in (words_of line.text) ≡ Ok l → is_spellable step ≡ true → line_text step ≡ line.text → filled_by step ≡ l.filled
-same_filled line l step h spelled same =
-    let means : Ok (meaning step.word step.values) ≡ Ok l = sym (step_in-line step spelled) ∙ (ap (λ text. step_in (words_of text)) same ∙ h) in
-    let is : meaning step.word step.values ≡ l = cc in
-    ap (λ (x : LineStep). x.filled) is
+same_filled : (text : List ℕ) (l : LineStep) (line : StepLine) → step_in (words_of text) ≡ Ok l → is_worded line ≡ true → line_text line ≡ text → filled_by line ≡ l.filled
+same_filled text l line e h same = ap (λ (x : LineStep). x.filled) (same_step line l h (sym (text_means text line h same) ∙ e))
 
-no_line : (why : ScriptReason) (line : TextLine) (before : List StepLine) → MayBeStep before line → step_in (words_of line.text) ≡ Err why → BreaksStepRule why before line
-no_line reason.UnknownStep line before may h = let b = step_in-err (words_of line.text) reason.UnknownStep h in (may, b.0, b.1)
-no_line reason.NotBuilt line before may h = let b = step_in-err (words_of line.text) reason.NotBuilt h in (may, b.0, b.1)
-no_line reason.BadWord line before may h = (
+-- the step of a line fills in too much
+over_by : (before : List StepLine) (line : TextLine) (spelled : StepLine) → MayBeStep before line → begins_step (words_of line.text) ≡ true
+    → step_in (words_of line.text) ≡ Ok (meant_by spelled) → most_filled < filled_in before + filled_by spelled → BreaksStepRule reason.BadWord before line
+over_by before line spelled may begins e most = (
   may,
-  step_in-err (words_of line.text) reason.BadWord h,
-  λ step spelled same. cc (sym (step_in-line step spelled) ∙ (ap (λ text. step_in (words_of text)) same ∙ h)),
+  begins,
+  λ step h same.
+      let filled = same_filled line.text (meant_by spelled) step e h same in
+      omega arith,
 )
-no_line reason.BadHead line before may h = absurd (step_in-err (words_of line.text) reason.BadHead h)
-no_line reason.BadJson line before may h = absurd (step_in-err (words_of line.text) reason.BadJson h)
-no_line reason.NotUtf8 line before may h = absurd (step_in-err (words_of line.text) reason.NotUtf8 h)
-no_line reason.TooManySteps line before may h = absurd (step_in-err (words_of line.text) reason.TooManySteps h)
-no_line reason.NoLineEnd line before may h = absurd (step_in-err (words_of line.text) reason.NoLineEnd h)
 
-broken_step : (why : ScriptReason) (line : TextLine) (before : List StepLine) (r : Result LineStep ScriptReason) → MayBeStep before line → step_in (words_of line.text) ≡ r
-    → on_ok r (filling (filled_in before)) ≡ Err why → BreaksStepRule why before line
-broken_step why line before (Err e) may is h =
+-- words that mean nothing, or fill in too much
+broken_step : (why : ScriptReason) (line : TextLine) (before : List StepLine) → MayBeStep before line → on_ok (step_in (words_of line.text)) (filling (filled_in before)) ≡ Err why
+    → Meant (words_of line.text) → BreaksStepRule why before line
+broken_step why line before may h (unknown b c e) =
     let P : ScriptReason → Type 0 = λ why. BreaksStepRule why before line in
-    subst P (sym (err_same e why _ refl h)) (no_line e line before may is)
-broken_step why line before (Ok l) may is h =
-    let over = overfilled (filled_in before) l why h in
+    subst P (sym (err_same reason.UnknownStep why _ refl (rw e at h))) (may, b, c)
+broken_step why line before may h (later b c e) =
     let P : ScriptReason → Type 0 = λ why. BreaksStepRule why before line in
-    subst P (sym over.0) (
-      may,
-      ok_begins (words_of line.text) l is,
-      λ step spelled same.
-          let filled = same_filled line l step is spelled same in
-          let most = over.1 in
-          omega arith,
-    )
+    subst P (sym (err_same reason.NotBuilt why _ refl (rw e at h))) (may, inl (b, c))
+broken_step why line before may h (bad_word b e) =
+    let P : ScriptReason → Type 0 = λ why. BreaksStepRule why before line in
+    subst P (sym (err_same reason.BadWord why _ refl (rw e at h))) (may, b, λ step w same. absurd (no_line_of line.text e step w same))
+broken_step why line before may h (malformed spelled is w bad e) =
+    let P : ScriptReason → Type 0 = λ why. BreaksStepRule why before line in
+    subst P (sym (err_same reason.BadJson why _ refl (rw e at h))) (may, (spelled, w, line_of_words line.text spelled is), no_spellable_line_of line.text e)
+broken_step why line before may h (unbuilt spelled is good b e) =
+    let P : ScriptReason → Type 0 = λ why. BreaksStepRule why before line in
+    subst P (sym (err_same reason.NotBuilt why _ refl (rw e at h))) (may, inr (spelled, good, line_of_words line.text spelled is, b))
+broken_step why line before may h (means spelled is good b e) =
+    let over = overfilled (filled_in before) (meant_by spelled) why (rw e at h) in
+    let P : ScriptReason → Type 0 = λ why. BreaksStepRule why before line in
+    subst P (sym over.0) (over_by before line spelled may (line_begins (words_of line.text) spelled is) e over.1)
+
+-- the words of a text without a line feed
+line_meant : (line : TextLine) → lacks_feed line ≡ true → is_utf8 line.text ≡ true → Meant (words_of line.text)
+line_meant line lacks u = meant (words_of line.text) (line-words line.text (and_true (is_utf8 line.text) (list_all stands_in_line line.text) u lacks))
 
 -- a line that isn't read breaks the rule of its reason
-pub breaks_step : (why : ScriptReason) (line : TextLine) (before : List StepLine) → length before ≤ most_steps → step_after (length before) (filled_in before) line ≡ Err why → BreaksStepRule why before line
+pub breaks_step : (why : ScriptReason) (line : TextLine) (before : List StepLine) → lacks_feed line ≡ true → length before ≤ most_steps → step_after (length before) (filled_in before) line ≡ Err why
+    → BreaksStepRule why before line
 unfolding step_after text_in
-breaks_step why line before few h =
+breaks_step why line before lacks few h =
     let P : ScriptReason → Type 0 = λ why. BreaksStepRule why before line in
     elim (tested (is_utf8 line.text)) [
       | inr u ↦ subst P (sym (err_same reason.NotUtf8 why _ refl (rw u at h))) u
@@ -153,7 +144,7 @@ breaks_step why line before few h =
         | inr e ↦ subst P (sym (err_same reason.NoLineEnd why _ refl (rw (u, e) at h))) (u, e)
         | inl e ↦ elim (tested (ltb (length before) most_steps)) [
           | inr full ↦ subst P (sym (err_same reason.TooManySteps why _ refl (rw (u, e, full) at h))) ((u, e), grind (arith, nat_tests))
-          | inl room ↦ broken_step why line before (step_in (words_of line.text)) ((u, e), grind (arith, nat_tests)) refl (rw (u, e, room) at h)
+          | inl room ↦ broken_step why line before ((u, e), grind (arith, nat_tests)) (rw (u, e, room) at h) (line_meant line lacks u)
         ]
       ]
     ]
@@ -166,30 +157,33 @@ words_decide line before may =
     let room : ltb (length before) most_steps ≡ true = grind (arith, nat_tests) in
     rw (may.0.0, may.0.1, room) refl
 
-bad_step : (line : TextLine) (before : List StepLine) (r : Result LineStep ScriptReason) → lacks_feed line ≡ true → is_utf8 line.text ≡ true
-    → ((step : StepLine) → is_spellable step ≡ true → line_text step ≡ line.text → most_filled < filled_in before + filled_by step)
-    → step_in (words_of line.text) ≡ r → begins_step (words_of line.text) ≡ true → on_ok r (filling (filled_in before)) ≡ Err reason.BadWord
-bad_step line before (Ok l) lacks u over is begins =
-    let read = step_in-ok (words_of line.text) l (line-words line.text (and_true (is_utf8 line.text) (list_all stands_in_line line.text) u lacks)) is in
-    let most = over read.line read.spellable (line_of_words line.text read.line read.is) in
-    let filled : filled_by read.line ≡ l.filled = ap (λ (x : LineStep). x.filled) read.means in
-    filling-over (filled_in before) l (omega arith)
-bad_step line before (Err e) lacks u over is begins = elim (bad_or_step (words_of line.text) begins) [
-  | inl bad ↦ sym is ∙ bad
-  | inr good ↦ cc (sym is ∙ good.1)
-]
+-- a line that fills in nothing isn't too much
+not_over : (before : List StepLine) (line : StepLine) → filled_in before ≤ most_filled → filled_by line ≡ 0 → most_filled < filled_in before + filled_by line → ⊥
+not_over before line within none over = omega arith
+
+bad_step : (line : TextLine) (before : List StepLine) → filled_in before ≤ most_filled → ((step : StepLine) → is_worded step ≡ true → line_text step ≡ line.text → most_filled < filled_in before + filled_by step)
+    → begins_step (words_of line.text) ≡ true → Meant (words_of line.text) → on_ok (step_in (words_of line.text)) (filling (filled_in before)) ≡ Err reason.BadWord
+bad_step line before within over begins (unknown b c e) = cc (sym b ∙ begins)
+bad_step line before within over begins (later b c e) = cc (sym b ∙ begins)
+bad_step line before within over begins (bad_word b e) = rw e refl
+bad_step line before within over begins (malformed spelled is w bad e) =
+    absurd (not_over before spelled within (malformed_fills_nothing spelled bad) (over spelled w (line_of_words line.text spelled is)))
+bad_step line before within over begins (unbuilt spelled is good b e) =
+    absurd (not_over before spelled within (unbuilt_fills_nothing spelled b) (over spelled (worded spelled good) (line_of_words line.text spelled is)))
+bad_step line before within over begins (means spelled is good b e) = rw e (filling-over (filled_in before) (meant_by spelled) (over spelled (worded spelled good) (line_of_words line.text spelled is)))
 
 -- and such a line isn't read
-pub step_refused : (why : ScriptReason) (line : TextLine) (before : List StepLine) → lacks_feed line ≡ true → BreaksStepRule why before line → step_after (length before) (filled_in before) line ≡ Err why
+pub step_refused : (why : ScriptReason) (line : TextLine) (before : List StepLine) → lacks_feed line ≡ true → filled_in before ≤ most_filled → BreaksStepRule why before line
+    → step_after (length before) (filled_in before) line ≡ Err why
 unfolding step_after text_in
-step_refused reason.NotUtf8 line before lacks b = rw b refl
-step_refused reason.NoLineEnd line before lacks b = rw (b.0, b.1) refl
-step_refused reason.TooManySteps line before lacks b =
+step_refused reason.NotUtf8 line before lacks within b = rw b refl
+step_refused reason.NoLineEnd line before lacks within b = rw (b.0, b.1) refl
+step_refused reason.TooManySteps line before lacks within b =
     let count = b.1 in
     let full : ltb (length before) most_steps ≡ false = grind (arith, nat_tests) in
     rw (b.0.0, b.0.1, full) refl
-step_refused reason.UnknownStep line before lacks b = words_decide line before b.0 ∙ rw (step_in-other (words_of line.text) false b.1 b.2) refl
-step_refused reason.NotBuilt line before lacks b = words_decide line before b.0 ∙ rw (step_in-other (words_of line.text) true b.1 b.2) refl
-step_refused reason.BadWord line before lacks b = words_decide line before b.0 ∙ bad_step line before (step_in (words_of line.text)) lacks b.0.0.0 b.2 refl b.1
-step_refused reason.BadHead line before lacks b = absurd b
-step_refused reason.BadJson line before lacks b = absurd b
+step_refused reason.UnknownStep line before lacks within b = words_decide line before b.0 ∙ rw (step_in-other (words_of line.text) false b.1 b.2) refl
+step_refused reason.NotBuilt line before lacks within b = words_decide line before b.0 ∙ rw (gives_not_built line.text b.1) refl
+step_refused reason.BadWord line before lacks within b = words_decide line before b.0 ∙ bad_step line before within b.2 b.1 (line_meant line lacks b.0.0.0)
+step_refused reason.BadJson line before lacks within b = words_decide line before b.0 ∙ rw (gives_bad_json line.text b.1 b.2) refl
+step_refused reason.BadHead line before lacks within b = absurd b

@@ -1,5 +1,5 @@
 -- What the parts of the reader answer.
-use Rattle.std.specs.Prelude.{◌≡◌, ℕ, Result, Ok, Err}
+use Rattle.std.specs.Prelude.{◌≡◌, ℕ, List, Result, Ok, Err}
 use Rattle.mux_run.specs.Run.{terms_of}
 use Rattle.script.specs.declared.reason.ScriptReason.{ScriptReason}
 use Rattle.script.specs.declared.fault.LineFault.{LineFault}
@@ -20,6 +20,11 @@ Fails line_fault.OutOfMemory found = Unit {0}
 abbrev pub Gives : {X Y : Type 0} → (X → Y) → Result X LineFault → Result Y ScriptReason → Type 0
 Gives view (Ok x) found = found ≡ Ok (view x)
 Gives view (Err fault) found = Fails fault found
+
+-- what the rest of a line was read as is what its text says
+abbrev pub GivesRest : {X : Type 0} → (said : List ℕ → X) → Result X LineFault → Result (List ℕ) ScriptReason → Type 0
+GivesRest said (Ok x) found = (text : List ℕ) × (found ≡ Ok text) × (said text ≡ x)
+GivesRest said (Err fault) found = Fails fault found
 
 -- a line as its definition sees it
 abbrev pub line_seen : Line → TextLine

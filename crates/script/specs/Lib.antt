@@ -1,3 +1,4 @@
+pub mod Rests
 pub mod Limits
 pub mod Table
 pub mod Spelling

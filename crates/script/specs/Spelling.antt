@@ -1,35 +1,43 @@
 -- How a script is written.
-use Rattle.std.specs.Prelude.{◌≡◌, ℕ, ◌+◌, ◌≤◌, List, [], ◌∷◌, ◌++◌, Bool, true, false, if◌then◌else◌, codes, length, map, replicate}
+use Rattle.std.specs.Prelude.{◌≡◌, ℕ, ◌+◌, ◌≤◌, List, [], ◌∷◌, ◌++◌, Bool, true, false, ◌&&◌, if◌then◌else◌, codes, length, map, replicate}
 use Rattle.std.specs.List.{list_all, flat_map, join_with_byte}
 use Rattle.wire_base.specs.declared.frame.Version.{Version}
 use Rattle.wire_base.specs.declared.frame.Version.TheVariants as version
 use Rattle.mux_run.specs.declared.steps.Side.{Side}
 use Rattle.mux_run.specs.declared.steps.Side.TheVariants.{A, B}
-use Rattle.mux_run.specs.declared.steps.Step.{Step}
+use Rattle.endpoint_run.specs.declared.steps.Step.{Step}
+use Rattle.endpoint_run.specs.Answers.{are_built_steps}
 use Rattle.mux_run.specs.Run.{Terms}
 use Rattle.text_words.specs.Bytes.{space}
 use Rattle.text_words.specs.Written.{side_word, bytes_word, line_feed, is_nonce, nonce_size}
 use Rattle.text_words.specs.Forms.{FormValues, write_forms, are_values}
+use Rattle.script.specs.declared.line_step.LineStep.{LineStep}
 use Rattle.script.specs.declared.step_word.StepWord.{StepWord}
 use Rattle.script.specs.Limits.{most_steps, most_filled}
-use Rattle.script.specs.Table.{word_text, forms_of, meaning}
+use Rattle.script.specs.Rests.{RestValue, write_rest, is_rest, is_there}
+use Rattle.script.specs.Table.{word_text, forms_of, rest_of, meaning}
 
--- a line that is a step: its step word, and a value for each form behind it
+-- a line that is a step: its step word, a value for each form behind it, and the rest of the line
 pub record StepLine : Type 0 where
   pub word : StepWord
   pub values : FormValues (forms_of word)
+  pub rest : RestValue (rest_of word)
+
+-- what a line means
+abbrev pub meant_by : StepLine → LineStep
+meant_by line = meaning line.word line.values line.rest
 
 -- the step of a line
 abbrev pub step_of : StepLine → Step
-step_of line = (meaning line.word line.values).step
+step_of line = (meant_by line).step
 
 -- how many bytes a line fills in
 abbrev pub filled_by : StepLine → ℕ
-filled_by line = (meaning line.word line.values).filled
+filled_by line = (meant_by line).filled
 
 -- the words of a line
 abbrev pub line_words : StepLine → List (List ℕ)
-line_words line = word_text line.word ∷ write_forms (forms_of line.word) line.values
+line_words line = word_text line.word ∷ write_forms (forms_of line.word) line.values ++ write_rest (rest_of line.word) line.rest
 
 -- those words, joined by single spaces
 abbrev pub line_text : StepLine → List ℕ
@@ -99,12 +107,17 @@ pub record AreTerms (terms : Terms) : Type 0 where
   pub none_a : has_nonces terms.version ≡ false → terms.nonce_a ≡ no_nonce
   pub none_b : has_nonces terms.version ≡ false → terms.nonce_b ≡ no_nonce
 
--- each value of the line has a word
+-- each value of the line has a word, and the rest of the line is of its form
 abbrev pub is_spellable : StepLine → Bool
-is_spellable line = are_values (forms_of line.word) line.values
+is_spellable line = are_values (forms_of line.word) line.values && is_rest (rest_of line.word) line.rest
+
+-- the same, whatever the rest of the line is
+abbrev pub is_worded : StepLine → Bool
+is_worded line = are_values (forms_of line.word) line.values && is_there (rest_of line.word) line.rest
 
 -- lines that stand in a script
 pub record AreScripted (lines : List StepLine) : Type 0 where
   pub spellable : list_all is_spellable lines ≡ true
+  pub built : are_built_steps (steps_of lines) ≡ true
   pub few : length lines ≤ most_steps
   pub within : filled_in lines ≤ most_filled

@@ -1,12 +1,13 @@
 -- What a line of a script stands for.
 use Rattle.std.specs.Prelude.{ℕ, ◌+◌, nat_lt, nat_le, List, [], ◌∷◌, Bool, false, ◌&&◌, Option, Some, None, Result, Ok, Err, if◌then◌else◌, codes}
-use Rattle.std.specs.Option.{ok_or, option_map}
+use Rattle.std.specs.Option.{ok_or}
 use Rattle.std.specs.List.{list_any}
 use Rattle.std.specs.Str.{is_utf8, bytes_eq}
 use Rattle.mux_run.specs.declared.steps.Side.{Side}
 use Rattle.wire_base.specs.declared.frame.Version.{Version}
 use Rattle.wire_base.specs.declared.frame.Version.TheVariants as version
-use Rattle.text_words.specs.Forms.{read_forms}
+use Rattle.endpoint_run.specs.Answers.{is_built_step}
+use Rattle.text_words.specs.Forms.{FormValues, read_front}
 use Rattle.text_words.specs.Reading.{words_of, nonce_in}
 use Rattle.text_words.specs.Written.{side_word}
 use Rattle.script.specs.declared.reason.ScriptReason.{ScriptReason}
@@ -15,7 +16,8 @@ use Rattle.script.specs.declared.line_step.LineStep.{LineStep}
 use Rattle.script.specs.declared.step_word.StepWord.{StepWord}
 use Rattle.script.specs.Limits.{most_steps, most_filled}
 use Rattle.script.specs.Lines.{TextLine}
-use Rattle.script.specs.Table.{word_text, step_words, later_words, forms_of, meaning}
+use Rattle.script.specs.Rests.{RestValue, read_rest}
+use Rattle.script.specs.Table.{word_text, step_words, later_words, forms_of, rest_of, meaning}
 
 -- the first of these step words that is written so
 abbrev pub word_among : List StepWord → List ℕ → Option StepWord
@@ -30,9 +32,22 @@ step_word_in text = word_among step_words text
 abbrev pub is_later : List ℕ → Bool
 is_later text = list_any (bytes_eq text) later_words
 
+-- a line whose step is built
+abbrev pub if_built : LineStep → Result LineStep ScriptReason
+if_built line = if is_built_step line.step then Ok line else Err reason.NotBuilt
+
+-- what the words behind a step word mean, with the rest of the line
+abbrev pub step_with : (w : StepWord) → FormValues (forms_of w) → Result (RestValue (rest_of w)) ScriptReason → Result LineStep ScriptReason
+step_with w values (Ok rest) = if_built (meaning w values rest)
+step_with w values (Err why) = Err why
+
+abbrev pub step_from : (w : StepWord) → Option (FormValues (forms_of w) × List (List ℕ)) → Result LineStep ScriptReason
+step_from w (Some front) = step_with w front.0 (read_rest (rest_of w) front.1)
+step_from w None = Err reason.BadWord
+
 -- what a step word and the words behind it mean
 unfoldable pub step_by : StepWord → List (List ℕ) → Result LineStep ScriptReason
-step_by w words = ok_or (option_map (meaning w) (read_forms (forms_of w) words)) reason.BadWord
+step_by w words = step_from w (read_front (forms_of w) words)
 
 -- the same, where the first word is one
 abbrev pub step_behind : (first : List ℕ) → Option StepWord → List (List ℕ) → Result LineStep ScriptReason

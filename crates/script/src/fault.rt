@@ -3,7 +3,6 @@
 ghost use Rattle.std.specs.Prelude.{◌≡◌};
 
 use crate::reason::ScriptReason;
-use std::alloc::{AllocError, AllocFailed};
 use wire_base::OutOfMemory;
 
 /// What stops the reader of a script: the first broken line, counted from 1, and why, or want of memory.

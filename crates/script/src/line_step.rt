@@ -1,6 +1,6 @@
 //! What a line of a script asks for.
 
-use mux_run::Step;
+use endpoint_run::Step;
 
 /// The step of a line, and how many bytes a `fill` writes in it.
 #[derive(Debug, Drop)]

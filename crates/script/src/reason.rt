@@ -12,9 +12,10 @@ pub enum ScriptReason {
     UnknownStep,
     /// 92: a word is missing, too many or not of its form.
     BadWord,
-    /// 93: the rest of the line isn't the JSON text that it has to be.
+    /// 93: behind words of their forms the rest of the line isn't the JSON text that it has to be.
     BadJson,
-    /// 94: the line's first word is a step word of the format that the program has no step for yet.
+    /// 94: the line's first word is a step word of the format that the program has no step for yet, or its step isn't
+    /// built.
     NotBuilt,
     /// 95: the line isn't UTF-8.
     NotUtf8,

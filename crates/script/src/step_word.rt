@@ -13,6 +13,13 @@ pub enum StepWord {
     Read,
     Complete,
     Terminate,
+    Attach,
+    Request,
+    Notify,
+    Result,
+    Fault,
+    Outcome,
+    Forget,
     Deliver,
     End,
 }
@@ -29,6 +36,13 @@ pub fn step_word(word: &str) -> Option<StepWord>
         "read" => Some(StepWord::Read),
         "complete" => Some(StepWord::Complete),
         "terminate" => Some(StepWord::Terminate),
+        "attach" => Some(StepWord::Attach),
+        "request" => Some(StepWord::Request),
+        "notify" => Some(StepWord::Notify),
+        "result" => Some(StepWord::Result),
+        "fault" => Some(StepWord::Fault),
+        "outcome" => Some(StepWord::Outcome),
+        "forget" => Some(StepWord::Forget),
         "deliver" => Some(StepWord::Deliver),
         "end" => Some(StepWord::End),
         _ => None,
@@ -40,22 +54,15 @@ pub fn is_later(word: &str) -> bool
     ensures { result ≡ is_later word.now }
 {
     match word {
-        "attach"
-        | "request"
-        | "notify"
-        | "result"
-        | "object"
+        "object"
         | "sequence"
-        | "fault"
         | "cancel"
         | "report"
         | "reports"
         | "next"
         | "abort"
         | "invoke"
-        | "release"
-        | "outcome"
-        | "forget" => true,
+        | "release" => true,
         _ => false,
     }
 }

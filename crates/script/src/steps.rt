@@ -2,14 +2,19 @@
 
 ghost use Rattle.std.specs.Prelude.{◌≡◌, map, replicate, IfOk};
 ghost use Rattle.script.specs.Given.{Gives};
-ghost use Rattle.script.specs.Table.{plain};
+ghost use Rattle.script.specs.Table.{calls, mux_calls, plain};
 ghost use Rattle.script.specs.Steps.{step_word_in, step_by, step_behind, step_in};
 
+use crate::built::built;
 use crate::fault::LineFault;
 use crate::line_step::LineStep;
 use crate::reason::ScriptReason;
+use crate::rest;
 use crate::step_word::{StepWord, is_later, step_word};
-use mux_run::{Call, Step};
+use endpoint_items::Call;
+use endpoint_run::Step;
+use mux_run::Side;
+use rpc_end::{Answer, Terms};
 use std::alloc::Global;
 use wire_base::{Blob, OutOfMemory};
 
@@ -24,6 +29,13 @@ fn plain(step: Step) -> LineStep
     LineStep { step, filled: 0 }
 }
 
+/// A line that is a call of the multiplexing end.
+fn mux_calls(side: Side, call: mux_items::Call) -> LineStep
+    ensures { result ≡ mux_calls side call }
+{
+    plain(Step::Call(side, Call::Mux(call)))
+}
+
 #[tactic(auto, unfolding(crate::specs::Steps::step_by))]
 fn offer(alloc: Global, words: &[&str]) -> Result<LineStep, LineFault>
     ensures { Gives (λ s. s) result (step_by StepWord.Offer (map (λ w. w.now) words.now)) }
@@ -34,7 +46,7 @@ fn offer(alloc: Global, words: &[&str]) -> Result<LineStep, LineFault>
     let side = text_words::side(side).ok_or(BAD_WORD)?;
     let name = text_words::name(alloc, name)?.ok_or(BAD_WORD)?;
     let window = text_words::number(window).ok_or(BAD_WORD)?;
-    Ok(plain(Step::Call(side, Call::Offer(name, window))))
+    Ok(mux_calls(side, mux_items::Call::Offer(name, window)))
 }
 
 #[tactic(auto, unfolding(crate::specs::Steps::step_by))]
@@ -47,7 +59,7 @@ fn accept(words: &[&str]) -> Result<LineStep, LineFault>
     let side = text_words::side(side).ok_or(BAD_WORD)?;
     let channel = text_words::channel(channel).ok_or(BAD_WORD)?;
     let window = text_words::number(window).ok_or(BAD_WORD)?;
-    Ok(plain(Step::Call(side, Call::Accept(channel.key(side), window))))
+    Ok(mux_calls(side, mux_items::Call::Accept(channel.key(side), window)))
 }
 
 #[tactic(auto, unfolding(crate::specs::Steps::step_by))]
@@ -60,7 +72,7 @@ fn write(alloc: Global, words: &[&str]) -> Result<LineStep, LineFault>
     let side = text_words::side(side).ok_or(BAD_WORD)?;
     let channel = text_words::channel(channel).ok_or(BAD_WORD)?;
     let bytes = text_words::bytes(alloc, bytes)?.ok_or(BAD_WORD)?;
-    Ok(plain(Step::Call(side, Call::Write(channel.key(side), bytes))))
+    Ok(mux_calls(side, mux_items::Call::Write(channel.key(side), bytes)))
 }
 
 /// A byte, so many times.
@@ -83,7 +95,8 @@ fn fill(alloc: Global, words: &[&str]) -> Result<LineStep, LineFault>
     let filled = text_words::limited_number(MOST_FILL, count).ok_or(BAD_WORD)?;
     let byte = text_words::byte(alloc, byte)?.ok_or(BAD_WORD)?;
     let bytes = repeated(alloc, byte, filled)?;
-    let step = Step::Call(side, Call::Write(channel.key(side), bytes));
+    let call = mux_items::Call::Write(channel.key(side), bytes);
+    let step = Step::Call(side, Call::Mux(call));
     Ok(LineStep { step, filled })
 }
 
@@ -97,7 +110,7 @@ fn read(words: &[&str]) -> Result<LineStep, LineFault>
     let side = text_words::side(side).ok_or(BAD_WORD)?;
     let channel = text_words::channel(channel).ok_or(BAD_WORD)?;
     let max = text_words::number(max).ok_or(BAD_WORD)?;
-    Ok(plain(Step::Call(side, Call::Read(channel.key(side), max))))
+    Ok(mux_calls(side, mux_items::Call::Read(channel.key(side), max)))
 }
 
 #[tactic(auto, unfolding(crate::specs::Steps::step_by))]
@@ -109,7 +122,7 @@ fn complete(words: &[&str]) -> Result<LineStep, LineFault>
     };
     let side = text_words::side(side).ok_or(BAD_WORD)?;
     let channel = text_words::channel(channel).ok_or(BAD_WORD)?;
-    Ok(plain(Step::Call(side, Call::Complete(channel.key(side)))))
+    Ok(mux_calls(side, mux_items::Call::Complete(channel.key(side))))
 }
 
 #[tactic(auto, unfolding(crate::specs::Steps::step_by))]
@@ -121,7 +134,115 @@ fn terminate(words: &[&str]) -> Result<LineStep, LineFault>
     };
     let side = text_words::side(side).ok_or(BAD_WORD)?;
     let channel = text_words::channel(channel).ok_or(BAD_WORD)?;
-    Ok(plain(Step::Call(side, Call::Terminate(channel.key(side)))))
+    Ok(mux_calls(side, mux_items::Call::Terminate(channel.key(side))))
+}
+
+/// A line that is a call of an end with connections.
+fn calls(side: Side, call: Call) -> LineStep
+    ensures { result ≡ calls side call }
+{
+    plain(Step::Call(side, call))
+}
+
+#[tactic(auto, unfolding(crate::specs::Steps::step_by))]
+fn attach(words: &[&str]) -> Result<LineStep, LineFault>
+    ensures { Gives (λ s. s) result (step_by StepWord.Attach (map (λ w. w.now) words.now)) }
+{
+    let [side, channel, framing, encoding] = words else {
+        return Err(BAD_WORD);
+    };
+    let side = text_words::side(side).ok_or(BAD_WORD)?;
+    let channel = text_words::channel(channel).ok_or(BAD_WORD)?;
+    let framing = text_words::framing(framing).ok_or(BAD_WORD)?;
+    let encoding = text_words::encoding(encoding).ok_or(BAD_WORD)?;
+    let terms = Terms { framing, encoding };
+    Ok(calls(side, Call::Attach(channel.key(side), terms)))
+}
+
+#[tactic(auto, unfolding(crate::specs::Steps::step_by))]
+fn request(alloc: Global, words: &[&str]) -> Result<LineStep, LineFault>
+    ensures { Gives (λ s. s) result (step_by StepWord.Request (map (λ w. w.now) words.now)) }
+{
+    let [side, channel, method, expect, rest @ ..] = words else {
+        return Err(BAD_WORD);
+    };
+    let side = text_words::side(side).ok_or(BAD_WORD)?;
+    let channel = text_words::channel(channel).ok_or(BAD_WORD)?;
+    let method = text_words::method(alloc, method)?.ok_or(BAD_WORD)?;
+    let expect = text_words::expect(expect).ok_or(BAD_WORD)?;
+    let args = rest::arguments(alloc, rest)?;
+    built(calls(side, Call::Request(channel.key(side), method, args, expect)))
+}
+
+#[tactic(auto, unfolding(crate::specs::Steps::step_by))]
+fn notify(alloc: Global, words: &[&str]) -> Result<LineStep, LineFault>
+    ensures { Gives (λ s. s) result (step_by StepWord.Notify (map (λ w. w.now) words.now)) }
+{
+    let [side, channel, method, rest @ ..] = words else {
+        return Err(BAD_WORD);
+    };
+    let side = text_words::side(side).ok_or(BAD_WORD)?;
+    let channel = text_words::channel(channel).ok_or(BAD_WORD)?;
+    let method = text_words::method(alloc, method)?.ok_or(BAD_WORD)?;
+    let args = rest::arguments(alloc, rest)?;
+    built(calls(side, Call::Notify(channel.key(side), method, args)))
+}
+
+#[tactic(auto, unfolding(crate::specs::Steps::step_by))]
+fn result(alloc: Global, words: &[&str]) -> Result<LineStep, LineFault>
+    ensures { Gives (λ s. s) result (step_by StepWord.Result (map (λ w. w.now) words.now)) }
+{
+    let [side, channel, id, rest @ ..] = words else {
+        return Err(BAD_WORD);
+    };
+    let side = text_words::side(side).ok_or(BAD_WORD)?;
+    let channel = text_words::channel(channel).ok_or(BAD_WORD)?;
+    let id = text_words::json_id(alloc, id)?.ok_or(BAD_WORD)?;
+    let value = rest::json(alloc, rest)?;
+    let answer = Answer::Value(value);
+    Ok(calls(side, Call::Respond(channel.key(side), id, answer)))
+}
+
+#[tactic(auto, unfolding(crate::specs::Steps::step_by))]
+fn fault(alloc: Global, words: &[&str]) -> Result<LineStep, LineFault>
+    ensures { Gives (λ s. s) result (step_by StepWord.Fault (map (λ w. w.now) words.now)) }
+{
+    let [side, channel, id, code, rest @ ..] = words else {
+        return Err(BAD_WORD);
+    };
+    let side = text_words::side(side).ok_or(BAD_WORD)?;
+    let channel = text_words::channel(channel).ok_or(BAD_WORD)?;
+    let id = text_words::json_id(alloc, id)?.ok_or(BAD_WORD)?;
+    let code = text_words::signed(code).ok_or(BAD_WORD)?;
+    let text = rest::string(alloc, rest)?;
+    let answer = Answer::Fault(code, text, None);
+    Ok(calls(side, Call::Respond(channel.key(side), id, answer)))
+}
+
+#[tactic(auto, unfolding(crate::specs::Steps::step_by))]
+fn outcome(words: &[&str]) -> Result<LineStep, LineFault>
+    ensures { Gives (λ s. s) result (step_by StepWord.Outcome (map (λ w. w.now) words.now)) }
+{
+    let [side, channel, number] = words else {
+        return Err(BAD_WORD);
+    };
+    let side = text_words::side(side).ok_or(BAD_WORD)?;
+    let channel = text_words::channel(channel).ok_or(BAD_WORD)?;
+    let number = u64::from(text_words::number(number).ok_or(BAD_WORD)?);
+    Ok(calls(side, Call::Outcome(channel.key(side), number)))
+}
+
+#[tactic(auto, unfolding(crate::specs::Steps::step_by))]
+fn forget(words: &[&str]) -> Result<LineStep, LineFault>
+    ensures { Gives (λ s. s) result (step_by StepWord.Forget (map (λ w. w.now) words.now)) }
+{
+    let [side, channel, number] = words else {
+        return Err(BAD_WORD);
+    };
+    let side = text_words::side(side).ok_or(BAD_WORD)?;
+    let channel = text_words::channel(channel).ok_or(BAD_WORD)?;
+    let number = u64::from(text_words::number(number).ok_or(BAD_WORD)?);
+    Ok(calls(side, Call::Forget(channel.key(side), number)))
 }
 
 #[tactic(auto, unfolding(crate::specs::Steps::step_by))]
@@ -159,6 +280,13 @@ fn step_by(alloc: Global, word: StepWord, words: &[&str]) -> Result<LineStep, Li
         StepWord::Read => read(words),
         StepWord::Complete => complete(words),
         StepWord::Terminate => terminate(words),
+        StepWord::Attach => attach(words),
+        StepWord::Request => request(alloc, words),
+        StepWord::Notify => notify(alloc, words),
+        StepWord::Result => result(alloc, words),
+        StepWord::Fault => fault(alloc, words),
+        StepWord::Outcome => outcome(words),
+        StepWord::Forget => forget(words),
         StepWord::Deliver => deliver(words),
         StepWord::End => end(words),
     }

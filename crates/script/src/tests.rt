@@ -1,7 +1,9 @@
 //! Worked scripts.
 
 use crate::{Script, ScriptFault, read_script};
-use mux_run::{Call, Side, Step};
+use endpoint_items::Call;
+use endpoint_run::Step;
+use mux_run::Side;
 use std::alloc::Global;
 use std::test::Fail;
 use text_words::NONCE_SIZE;
@@ -31,15 +33,19 @@ struct Said<'a> {
     bytes: &'a [u8],
 }
 
-/// What a call at a side says.
-fn said_by_call(side: Side, call: &Call) -> Said<'_> {
+/// What a call of the multiplexing end at a side says.
+fn said_by_call(side: Side, call: &mux_items::Call) -> Said<'_> {
     let (word, channel, number, bytes) = match call {
-        Call::Offer(name, window) => ("offer", (0, true), *window, name.as_str().as_bytes()),
-        Call::Accept(key, window) => ("accept", (key.id, key.own), *window, b"".as_slice()),
-        Call::Write(key, bytes) => ("write", (key.id, key.own), 0, bytes.as_bytes()),
-        Call::Read(key, max) => ("read", (key.id, key.own), *max, b"".as_slice()),
-        Call::Complete(key) => ("complete", (key.id, key.own), 0, b"".as_slice()),
-        Call::Terminate(key) => ("terminate", (key.id, key.own), 0, b"".as_slice()),
+        mux_items::Call::Offer(name, window) => {
+            ("offer", (0, true), *window, name.as_str().as_bytes())
+        }
+        mux_items::Call::Accept(key, window) => {
+            ("accept", (key.id, key.own), *window, b"".as_slice())
+        }
+        mux_items::Call::Write(key, bytes) => ("write", (key.id, key.own), 0, bytes.as_bytes()),
+        mux_items::Call::Read(key, max) => ("read", (key.id, key.own), *max, b"".as_slice()),
+        mux_items::Call::Complete(key) => ("complete", (key.id, key.own), 0, b"".as_slice()),
+        mux_items::Call::Terminate(key) => ("terminate", (key.id, key.own), 0, b"".as_slice()),
     };
     Said {
         word,
@@ -53,7 +59,8 @@ fn said_by_call(side: Side, call: &Call) -> Said<'_> {
 /// What a step says.
 fn said_by(step: &Step) -> Said<'_> {
     match step {
-        Step::Call(side, call) => said_by_call(*side, call),
+        Step::Call(side, Call::Mux(call)) => said_by_call(*side, call),
+        Step::Call(side, _) => said_at("connection", *side, 0),
         Step::Deliver(side, count) => said_at("deliver", *side, *count),
         Step::End(side) => said_at("end", *side, 0),
     }
@@ -143,6 +150,86 @@ fn reads_steps_in_their_order(rt: HostRuntime) -> Result<(), Fail> {
         ("end B", ("end", Side::B, (0, true), 0, b"")),
     ];
     assert_eq!(rt; first_other(rt.alloc(), &rows)?, None);
+    Ok(())
+}
+
+/// The Debug text of the one step of a script of version 3 with this line.
+fn shown(alloc: Global, line: &str) -> Result<String, Fail> {
+    let text = format!(in alloc; "script 1\nversion 3\n{line}\n")?;
+    let script = read(alloc, text.as_bytes())?;
+    Ok(format!(in alloc; "{:?}", script.steps.get(0))?)
+}
+
+/// The first of these lines whose step isn't shown so.
+fn first_shown_otherwise(
+    alloc: Global,
+    rows: &[(&'static str, &'static str)],
+) -> Result<Option<&'static str>, Fail> {
+    for (line, want) in rows {
+        if shown(alloc, line)?.as_str() != *want {
+            return Ok(Some(*line));
+        }
+    }
+    Ok(None)
+}
+
+#[test]
+fn reads_calls_of_connections(rt: HostRuntime) -> Result<(), Fail> {
+    let rows = [
+        (
+            "attach A A1 header json",
+            "Some(Call(A, Attach(ChannelKey { id: 1, own: true }, Terms { framing: Header, encoding: Json })))",
+        ),
+        (
+            "attach B A12 length pack",
+            "Some(Call(B, Attach(ChannelKey { id: 12, own: false }, Terms { framing: Length, encoding: Pack })))",
+        ),
+        (
+            "request A A1 m plain -",
+            "Some(Call(A, Request(ChannelKey { id: 1, own: true }, Text { inner: \"m\" }, Absent, Plain)))",
+        ),
+        (
+            "request A A1 m plain []",
+            "Some(Call(A, Request(ChannelKey { id: 1, own: true }, Text { inner: \"m\" }, List(ArgList { items: [] }), Plain)))",
+        ),
+        (
+            "request A A1 m plain [ 1,\"a  b\" ]",
+            "Some(Call(A, Request(ChannelKey { id: 1, own: true }, Text { inner: \"m\" }, List(ArgList { items: [Plain(Datum { node: Whole(Whole { inner: 1 }) }), Plain(Datum { node: Words(Text { inner: \"a  b\" }) })] }), Plain)))",
+        ),
+        (
+            "request A A1 m plain [{\"$progress\":false}]",
+            "Some(Call(A, Request(ChannelKey { id: 1, own: true }, Text { inner: \"m\" }, List(ArgList { items: [Plain(Datum { node: Pairs(PairList { pairs: [(Text { inner: \"$progress\" }, Datum { node: Flag(false) })] }) })] }), Plain)))",
+        ),
+        (
+            "notify B B0 - {\"k\":null}",
+            "Some(Call(B, Notify(ChannelKey { id: 0, own: true }, Text { inner: \"-\" }, Named(PairList { pairs: [(Text { inner: \"k\" }, Datum { node: Nil })] }))))",
+        ),
+        (
+            "result B A1 1 true",
+            "Some(Call(B, Respond(ChannelKey { id: 1, own: false }, Number(1), Value(Datum { node: Flag(true) }))))",
+        ),
+        (
+            "result B A1 \"a\" \"b c\"",
+            "Some(Call(B, Respond(ChannelKey { id: 1, own: false }, Name(Text { inner: \"a\" }), Value(Datum { node: Words(Text { inner: \"b c\" }) }))))",
+        ),
+        (
+            "fault B A1 1 -0 \"t\"",
+            "Some(Call(B, Respond(ChannelKey { id: 1, own: false }, Number(1), Fault(0, Text { inner: \"t\" }, None))))",
+        ),
+        (
+            "fault B A1 -2 -4294967295 \"\\u0074 u\"",
+            "Some(Call(B, Respond(ChannelKey { id: 1, own: false }, Number(-2), Fault(-4294967295, Text { inner: \"t u\" }, None))))",
+        ),
+        (
+            "outcome A A1 4294967295",
+            "Some(Call(A, Outcome(ChannelKey { id: 1, own: true }, 4294967295)))",
+        ),
+        (
+            "forget A B7 0",
+            "Some(Call(A, Forget(ChannelKey { id: 7, own: false }, 0)))",
+        ),
+    ];
+    assert_eq!(rt; first_shown_otherwise(rt.alloc(), &rows)?, None);
     Ok(())
 }
 
@@ -269,9 +356,6 @@ fn refuses_broken_steps(rt: HostRuntime) -> Result<(), Fail> {
         ("deliver A -\n", (3, 92)),
         ("end\n", (3, 92)),
         ("end A B\n", (3, 92)),
-        ("attach A A1 header json\n", (3, 94)),
-        ("request\n", (3, 94)),
-        ("forget A A1 1\n", (3, 94)),
         ("deliver A all", (3, 97)),
         ("deliver A all\nx", (4, 97)),
         ("offer C a 8\nx", (3, 92)),
@@ -280,6 +364,72 @@ fn refuses_broken_steps(rt: HostRuntime) -> Result<(), Fail> {
         first_unbroken(rt.alloc(), "script 1\nversion 3\n", &rows)?,
         None
     );
+    Ok(())
+}
+
+/// The reason of a script of version 3 with this line.
+fn reason_of(alloc: Global, line: &str) -> Result<(u64, u32), Fail> {
+    let script = format!(in alloc; "script 1\nversion 3\n{line}\n")?;
+    Ok(broken(alloc, script.as_bytes()))
+}
+
+/// The first of these lines that isn't refused by its number.
+fn first_other_reason(
+    alloc: Global,
+    rows: &[(&'static str, u32)],
+) -> Result<Option<&'static str>, Fail> {
+    for (line, number) in rows {
+        if reason_of(alloc, line)? != (3, *number) {
+            return Ok(Some(*line));
+        }
+    }
+    Ok(None)
+}
+
+#[test]
+fn refuses_broken_calls_of_connections(rt: HostRuntime) -> Result<(), Fail> {
+    let rows = [
+        ("request", 92),
+        ("attach A A1 header", 92),
+        ("attach A A1 header yaml", 92),
+        ("attach A A1 Header json", 92),
+        ("attach A A1 header json x", 92),
+        ("request A A1  plain -", 92),
+        ("request A A1 m odd -", 92),
+        ("request A A1 m plain", 92),
+        ("request A A1 m plain ", 93),
+        ("request A A1 m plain 5", 93),
+        ("request A A1 m plain - ", 93),
+        ("request A A1 m sequence [1.5]", 93),
+        ("request A A1 m sequence []", 94),
+        ("request A A1 m sequence -", 94),
+        ("request A A1 m plain [{\"$progress\":true}]", 94),
+        ("request A A1 m plain [1,{\"$object\":[1,\"call\"]}]", 94),
+        ("notify A A1 m", 92),
+        ("notify A A1 m {", 93),
+        ("notify A A1 m [{\"$handed\":3}]", 94),
+        ("result B A1 x 5", 92),
+        ("result B A1 1.5 5", 92),
+        ("result B A1 \"a b\" 5", 92),
+        ("result B A1 1", 92),
+        ("result B A1 1 ", 93),
+        ("result B A1 1 5 5", 93),
+        ("result B A1 1 {\"a\":1e400}", 93),
+        ("fault B A1 1 4294967296 \"t\"", 92),
+        ("fault B A1 1 +5 \"t\"", 92),
+        ("fault B A1 1 - \"t\"", 92),
+        ("fault B A1 1 5", 92),
+        ("fault B A1 1 5 7", 93),
+        ("fault B A1 1 5 t", 93),
+        ("outcome A A1 01", 92),
+        ("outcome A A1", 92),
+        ("forget A A1 1 1", 92),
+        ("object", 94),
+        ("cancel A A1 1", 94),
+        ("release A", 94),
+        ("Request A A1 m plain -", 91),
+    ];
+    assert_eq!(rt; first_other_reason(rt.alloc(), &rows)?, None);
     Ok(())
 }
 

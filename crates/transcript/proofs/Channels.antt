@@ -1,13 +1,17 @@
--- Lines of channels, one after the other.
-use Rattle.std.specs.Prelude.{if◌then◌else◌}
+-- Lines of channels and of requests, one after the other.
+use Rattle.std.specs.Prelude.{◌-◌, zero, if◌then◌else◌}
 use Rattle.std.specs.List.{flat_map}
-use Rattle.std.proofs.Common.{◌≡◌, ℕ, suc, ◌+◌, ◌<◌, List, [], ◌∷◌, ◌++◌, length, drop, filter, Bool, true, false, Option, Some, None, slice_get, refl, sym, ◌∙◌, ap, append_assoc, add-one, drop-cons, inl, inr}
+use Rattle.std.proofs.Common.{◌≡◌, ℕ, suc, ◌+◌, ◌<◌, ◌≤◌, List, [], ◌∷◌, ◌++◌, length, drop, filter, Bool, true, false, Option, Some, None, slice_get, refl, sym, ◌∙◌, ap, append_assoc, add-one, arith, drop-cons, inl, inr}
 use Rattle.std.proofs.lemmas.List.{append-nil, drop_all}
 use Rattle.std.proofs.lemmas.Option.{slice_get_within, slice_get_cases, get_or_from_slice_get}
+use Rattle.wire_base.specs.declared.frame.Version.{Version}
 use Rattle.wire_base.specs.declared.state.Cause.{Cause}
-use Rattle.mux_end.specs.Stands.{state_by}
-use Rattle.transcript.specs.Report.{shown_state, state_text}
 use Rattle.mux_items.specs.declared.channel.ChannelKey.{ChannelKey}
+use Rattle.mux_items.specs.declared.channel.Tally.{Tally}
+use Rattle.mux_run.specs.declared.steps.Side.{Side}
+use Rattle.mux_end.specs.Stands.{state_by}
+use Rattle.endpoint_items.specs.Items.{EndItem}
+use Rattle.transcript.specs.Report.{shown_state, state_text, channel_line_of, request_line, first_request_lines}
 
 pub drop_at_some : (xs : List ChannelKey) (i : ℕ) (x : ChannelKey) → slice_get xs i ≡ Some x → drop i xs ≡ x ∷ drop (i + 1) xs
 drop_at_some xs i x e =
@@ -38,6 +42,26 @@ lines_more line test xs i k out now all here is before =
 pub lines_done : (line : ChannelKey → List ℕ) (test : ChannelKey → Bool) (xs : List ChannelKey) (i : ℕ) (out all : List ℕ) → drop i xs ≡ [] → out ++ flat_map line (filter test (drop i xs)) ≡ all → out ≡ all
 lines_done line test xs i out all none before =
     sym (append-nil out) ∙ (ap (λ ys. out ++ flat_map line (filter test ys)) (sym none) ∙ before)
+
+-- the line of a channel, and those of its requests
+pub both_lines : (side : Side) (key : ChannelKey) (tally told : Option Tally) (out first now requests : List ℕ) → first ≡ out ++ channel_line_of side key tally → tally ≡ told
+    → now ≡ first ++ requests → now ≡ out ++ (channel_line_of side key told ++ requests)
+both_lines side key tally told out first now requests is same later =
+    later
+    ∙ (ap (λ bs. bs ++ requests) (is ∙ ap (λ t. out ++ channel_line_of side key t) same)
+    ∙ append_assoc out (channel_line_of side key told) requests)
+
+-- the line of one request more; their numbers begin at 1
+pub requests_more : (v : Version) (side : Side) (items : List EndItem) (key : ChannelKey) (n : ℕ) (out told now : List ℕ) → 1 ≤ n → now ≡ told ++ request_line v side items key n
+    → told ≡ out ++ first_request_lines v side items key (n - 1) → now ≡ out ++ first_request_lines v side items key (n + 1 - 1)
+requests_more v side items key zero out told now h is before = absurd (omega (arith, h))
+requests_more v side items key (suc n) out told now h is before =
+    let fewer : suc n - 1 ≡ n = omega arith in
+    let more : suc n ≡ suc n + 1 - 1 = omega arith in
+    is
+    ∙ (ap (λ bs. bs ++ request_line v side items key (suc n)) (before ∙ ap (λ k. out ++ first_request_lines v side items key k) fewer)
+    ∙ (append_assoc out (first_request_lines v side items key n) (request_line v side items key (suc n))
+    ∙ ap (λ k. out ++ first_request_lines v side items key k) more))
 
 -- the state of an end that stands for items is told as these items say
 pub shown_state-is : (o : Option Cause) → shown_state (state_by o) ≡ state_text o

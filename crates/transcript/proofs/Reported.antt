@@ -1,9 +1,15 @@
--- The lines of steps, one after the other.
-use Rattle.std.proofs.Common.{◌≡◌, ℕ, ◌+◌, ◌≤◌, List, [], ◌∷◌, ◌++◌, length, length-append, refl, sym, ◌∙◌, ap, arith, append_assoc}
+-- The lines of steps, one after the other, and what holds of their run.
+use Rattle.std.proofs.Common.{◌≡◌, ℕ, ◌+◌, ◌≤◌, List, [], ◌∷◌, ◌++◌, true, length, length-append, refl, sym, ◌∙◌, ap, arith, append_assoc}
+use Rattle.std.proofs.lemmas.Bool.{and_parts}
 use Rattle.std.proofs.lemmas.List.{append-nil}
-use Rattle.mux_run.specs.declared.steps.Step.{Step}
-use Rattle.mux_run.specs.Run.{Terms, happens, run, start}
-use Rattle.mux_run.proofs.Links.{run_from-push}
+use Rattle.mux_run.specs.Run.{Terms}
+use Rattle.endpoint_run.specs.declared.steps.Step.{Step}
+use Rattle.endpoint_run.specs.Answers.{are_built_steps, is_built_step, made_step, made_steps, run, world_by}
+use Rattle.endpoint_run.proofs.Exchanging.{run_exchanges}
+use Rattle.endpoint_run.proofs.Safety.{run_safe}
+use Rattle.endpoint_run.proofs.Settled.{run_settled}
+use Rattle.endpoint_run.proofs.Telling.{run_goes_on}
+use Rattle.duo_world.specs.Stepping.{RunHolds}
 use Rattle.transcript.specs.Report.{step_lines, steps_lines}
 
 pub stored_next : (all xs ys rest now : List Step) (s : Step) → rest ≡ s ∷ ys → xs ++ rest ≡ all → now ≡ xs ++ s ∷ [] → now ++ ys ≡ all
@@ -14,9 +20,9 @@ pub lines_next : (terms : Terms) (k : ℕ) (xs ys rest made : List Step) (s : St
     → now ≡ told ++ step_lines terms (k + 1) s (run terms xs)
     → told ++ steps_lines terms (k + 1) (run terms xs) rest ≡ all → now ++ steps_lines terms (k + 1 + 1) (run terms made) ys ≡ all
 lines_next terms k xs ys rest made s told now all next stored is before =
-    let world : run terms made ≡ happens terms s (run terms xs) = ap (run terms) stored ∙ run_from-push terms start xs s in
+    let world : run terms made ≡ world_by terms (made_step s) (run terms xs) = ap (run terms) stored ∙ run_goes_on terms s xs in
     let first = step_lines terms (k + 1) s (run terms xs) in
-    let later = steps_lines terms (k + 1 + 1) (happens terms s (run terms xs)) ys in
+    let later = steps_lines terms (k + 1 + 1) (world_by terms (made_step s) (run terms xs)) ys in
     ap (λ w. now ++ steps_lines terms (k + 1 + 1) w ys) world
     ∙ (ap (λ bs. bs ++ later) is
     ∙ (append_assoc told first later
@@ -33,3 +39,18 @@ nil_of_length (x ∷ xs) e = absurd (omega arith)
 -- nothing is left, so all were made
 pub all_stored : (all xs rest : List Step) → length rest ≡ 0 → xs ++ rest ≡ all → xs ≡ all
 all_stored all xs rest none is = sym (append-nil xs) ∙ (ap (λ r. xs ++ r) (sym (nil_of_length rest none)) ∙ is)
+
+-- what holds of every run
+pub run_holds : (terms : Terms) (steps : List Step) → RunHolds terms steps
+run_holds terms steps = record {
+  safe = run_safe terms (made_steps steps);
+  exchange = run_exchanges terms (made_steps steps);
+  settled = run_settled terms (made_steps steps);
+}
+
+-- where all that are left are built, so are the first and those after it
+pub first_built : (rest ys : List Step) (s : Step) → rest ≡ s ∷ ys → are_built_steps rest ≡ true → is_built_step s ≡ true
+first_built rest ys s next built = (and_parts (is_built_step s) (are_built_steps ys) (sym (ap are_built_steps next) ∙ built)).0
+
+pub others_built : (rest ys : List Step) (s : Step) → rest ≡ s ∷ ys → are_built_steps rest ≡ true → are_built_steps ys ≡ true
+others_built rest ys s next built = (and_parts (is_built_step s) (are_built_steps ys) (sym (ap are_built_steps next) ∙ built)).1

@@ -2,13 +2,16 @@
 use Rattle.std.proofs.Common.{◌≡◌, ℕ, List, [], ◌++◌, codes, ◌∙◌, sym, ap, subst, append_assoc}
 use Rattle.std.proofs.lemmas.List.{append-nil}
 use Rattle.frame_text.specs.Hello.{hello}
-use Rattle.mux_run.specs.declared.steps.Step.{Step}
 use Rattle.mux_run.specs.declared.steps.Side.{Side}
 use Rattle.mux_run.specs.declared.steps.Side.TheVariants.{A, B}
-use Rattle.mux_run.specs.Run.{Terms, run, start}
+use Rattle.mux_run.specs.Run.{Terms}
+use Rattle.endpoint_items.specs.Items.{EndItem}
+use Rattle.endpoint_run.specs.declared.steps.Step.{Step}
+use Rattle.endpoint_run.specs.Answers.{run}
+use Rattle.endpoint_run.specs.Run.{start}
+use Rattle.endpoint.specs.Stands.{Stands}
+use Rattle.endpoint.specs.Value.{EndpointValue}
 use Rattle.duo_world.specs.Holding.{DuoState, StandForWorld, StandsForRun}
-use Rattle.mux_end.specs.Stands.{EndValue, MuxStands}
-use Rattle.mux_items.specs.Items.{Item}
 use Rattle.transcript.specs.Words.{emitted_line}
 use Rattle.transcript.specs.Report.{steps_lines, opening_lines, closing_lines, summary, report_text}
 use Rattle.transcript.specs.Ran.{HasRun}
@@ -28,11 +31,11 @@ joined_four all a b c d m₁ m₂ m₃ m₄ h₁ h₂ h₃ h₄ =
 
 -- before the first step the handshakes are on their way
 pub opening_is : (d : DuoState) (all m₁ m₂ m₃ : List ℕ) → d.steps ≡ [] → StandsForRun d → m₁ ≡ all ++ codes "report 1\n0 start\n"
-    → m₂ ≡ m₁ ++ emitted_line A d.a.output → m₃ ≡ m₂ ++ emitted_line B d.b.output → m₃ ≡ all ++ opening_lines d.terms
+    → m₂ ≡ m₁ ++ emitted_line A d.a.mux.output → m₃ ≡ m₂ ++ emitted_line B d.b.mux.output → m₃ ≡ all ++ opening_lines d.terms
 opening_is d all m₁ m₂ m₃ fresh stands h₁ h₂ h₃ =
     let s : StandForWorld d.terms d.a d.b (run d.terms []) = subst (λ steps. StandForWorld d.terms d.a d.b (run d.terms steps)) fresh stands in
-    let a : d.a.output ≡ hello d.terms.version d.terms.nonce_a = s.at_own.output ∙ append-nil (hello d.terms.version d.terms.nonce_a) in
-    let b : d.b.output ≡ hello d.terms.version d.terms.nonce_b = s.at_peer.output ∙ append-nil (hello d.terms.version d.terms.nonce_b) in
+    let a : d.a.mux.output ≡ hello d.terms.version d.terms.nonce_a = s.at_own.output ∙ append-nil (hello d.terms.version d.terms.nonce_a) in
+    let b : d.b.mux.output ≡ hello d.terms.version d.terms.nonce_b = s.at_peer.output ∙ append-nil (hello d.terms.version d.terms.nonce_b) in
     joined_three all _ _ _ m₁ m₂ m₃ h₁ (h₂ ∙ ap (λ bs. m₁ ++ emitted_line A bs) a) (h₃ ∙ ap (λ bs. m₂ ++ emitted_line B bs) b)
 
 -- the parts of a report, told one after the other
@@ -47,14 +50,14 @@ pub has_run : (terms : Terms) (steps : List Step) (old new : DuoState) → old.t
 has_run terms steps old new same ran = subst (λ t. HasRun t steps new) same ran
 
 -- the summary of an end that is the one of a world
-pub summary_told : (end own : EndValue) (side : Side) (items : List Item) (at : ℕ) (rest told now : List ℕ) → end ≡ own → MuxStands own items at rest
-    → ((items : List Item) (at : ℕ) (rest : List ℕ) → MuxStands end items at rest → now ≡ told ++ summary end.version side items) → now ≡ told ++ summary own.version side items
+pub summary_told : (end own : EndpointValue) (side : Side) (items : List EndItem) (at : ℕ) (rest told now : List ℕ) → end ≡ own → Stands own items at rest
+    → ((items : List EndItem) (at : ℕ) (rest : List ℕ) → Stands end items at rest → now ≡ told ++ summary end.mux.version side items) → now ≡ told ++ summary own.mux.version side items
 summary_told end own side items at rest told now is stands tells =
-    tells items at rest (subst (λ e. MuxStands e items at rest) (sym is) stands) ∙ ap (λ e. told ++ summary e.version side items) is
+    tells items at rest (subst (λ e. Stands e items at rest) (sym is) stands) ∙ ap (λ e. told ++ summary e.mux.version side items) is
 
 -- how both sides stand
 pub closing_is : (d : DuoState) (all m₁ m₂ m₃ m₄ : List ℕ) → StandsForRun d → m₁ ≡ all ++ codes "state\n"
-    → m₂ ≡ m₁ ++ summary d.a.version A (run d.terms d.steps).a.items → m₃ ≡ m₂ ++ summary d.b.version B (run d.terms d.steps).b.items → m₄ ≡ m₃ ++ codes "end\n"
+    → m₂ ≡ m₁ ++ summary d.a.mux.version A (run d.terms d.steps).a.items → m₃ ≡ m₂ ++ summary d.b.mux.version B (run d.terms d.steps).b.items → m₄ ≡ m₃ ++ codes "end\n"
     → m₄ ≡ all ++ closing_lines d.terms (run d.terms d.steps)
 closing_is d all m₁ m₂ m₃ m₄ stands h₁ h₂ h₃ h₄ =
     let w = run d.terms d.steps in

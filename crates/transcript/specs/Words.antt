@@ -14,10 +14,21 @@ use Rattle.mux_items.specs.declared.channel.Phase.TheVariants as phase
 use Rattle.mux_items.specs.declared.channel.MuxEvent.{MuxEvent}
 use Rattle.mux_items.specs.declared.channel.MuxEvent.TheVariants as mux
 use Rattle.mux_run.specs.declared.steps.Side.{Side}
-use Rattle.mux_run.specs.declared.answers.EndEvent.{EndEvent}
-use Rattle.mux_run.specs.declared.answers.EndEvent.TheVariants as event
-use Rattle.mux_run.specs.declared.answers.Reply.{Reply}
-use Rattle.mux_run.specs.declared.answers.Reply.TheVariants as reply
+use Rattle.wire_base.specs.Tree.{whole, words}
+use Rattle.wire_base.specs.declared.text.Id.{Id}
+use Rattle.json_value.specs.Json.{shown}
+use Rattle.rpc_items.specs.declared.calls.Outcome.{Outcome}
+use Rattle.rpc_items.specs.declared.calls.Outcome.TheVariants as outcome
+use Rattle.rpc_items.specs.declared.calls.RpcEvent.{RpcEvent}
+use Rattle.rpc_items.specs.declared.calls.RpcEvent.TheVariants as rpc
+use Rattle.rpc_items.specs.declared.calls.Target.{Target}
+use Rattle.rpc_items.specs.declared.calls.Target.TheVariants as target
+use Rattle.rpc_items.specs.Ids.{id_value}
+use Rattle.endpoint_items.specs.declared.event.EndEvent.TheVariants as event
+use Rattle.endpoint_items.specs.declared.reply.Reply.{Reply}
+use Rattle.endpoint_items.specs.declared.reply.Reply.TheVariants as reply
+use Rattle.endpoint_run.specs.declared.answers.SideEvent.{SideEvent}
+use Rattle.endpoint_run.specs.declared.answers.SideEvent.TheVariants as side_event
 
 -- a channel of an end of this side, by the side that offered it
 abbrev pub channel_text : Side → ChannelKey → List ℕ
@@ -40,10 +51,20 @@ phase_text phase.Closed = codes "closed"
 abbrev pub refusal_text : Refusal → List ℕ
 refusal_text r = codes "refused " ++ decimal (refusal_number r) ++ codes " " ++ refusal_name r
 
+-- what became of a request: its result, or the code and the message of its error
+abbrev pub outcome_text : Outcome → List ℕ
+outcome_text (outcome.Replied value) = codes "replied " ++ shown value
+outcome_text (outcome.Failed code message more) = codes "failed " ++ shown (whole code) ++ codes " " ++ shown (words message)
+outcome_text outcome.Lost = codes "lost"
+outcome_text outcome.Starved = codes "starved"
+
 abbrev pub reply_text : Side → Reply → List ℕ
 reply_text side reply.Done = codes "ok"
 reply_text side (reply.Made key) = codes "channel " ++ channel_text side key
 reply_text side (reply.Bytes bytes) = codes "bytes " ++ bytes_word bytes
+reply_text side (reply.Number n) = codes "request " ++ decimal n
+reply_text side (reply.Known o) = outcome_text o
+reply_text side reply.NotYet = codes "pending"
 reply_text side (reply.Refused r) = refusal_text r
 reply_text side reply.OutOfMemory = []
 
@@ -58,12 +79,34 @@ mux_event_text side (mux.Closed key) = codes "closed " ++ channel_text side key
 mux_event_text side (mux.Credit key count) = codes "credit " ++ channel_text side key ++ codes " " ++ decimal count
 mux_event_text side (mux.Ignored key) = codes "ignored " ++ channel_text side key
 
-abbrev pub event_text : Side → EndEvent → List ℕ
-event_text side (event.Mux e) = mux_event_text side e
-event_text side (event.Ended c) = codes "ended " ++ cause_text c
+-- an id, as JSON
+abbrev pub id_text : Id → List ℕ
+id_text id = shown (id_value id)
+
+-- the object that a request calls, where it calls one of its own
+abbrev pub target_text : Target → List ℕ
+target_text target.Root = []
+target_text (target.Object n handle) = codes "object " ++ decimal n ++ codes " "
+
+-- what a message was to the connection of a channel; a method is shown as it came
+abbrev pub rpc_event_text : Side → ChannelKey → RpcEvent → List ℕ
+rpc_event_text side key (rpc.Asked id called method args) = codes "asked " ++ channel_text side key ++ codes " " ++ id_text id ++ codes " " ++ target_text called ++ method
+rpc_event_text side key (rpc.Told method args) = codes "told " ++ channel_text side key ++ codes " " ++ method
+rpc_event_text side key (rpc.Cancelled id) = codes "cancelled " ++ channel_text side key ++ codes " " ++ id_text id
+rpc_event_text side key (rpc.Answered n) = codes "answered " ++ channel_text side key ++ codes " " ++ decimal n
+rpc_event_text side key (rpc.Reported n) = codes "reported " ++ channel_text side key ++ codes " " ++ decimal n
+rpc_event_text side key (rpc.Released handle) = codes "handled " ++ channel_text side key ++ codes " $/releaseMarshaledObject"
+rpc_event_text side key (rpc.Handled method) = codes "handled " ++ channel_text side key ++ codes " " ++ method
+rpc_event_text side key rpc.Stray = codes "stray " ++ channel_text side key
+
+abbrev pub event_text : Side → SideEvent → List ℕ
+event_text side (side_event.Happened (event.Mux e)) = mux_event_text side e
+event_text side (side_event.Happened (event.Rpc key e)) = rpc_event_text side key e
+event_text side (side_event.Happened (event.RpcEnded key c)) = codes "rpc-ended " ++ channel_text side key ++ codes " " ++ cause_text c
+event_text side (side_event.Ended c) = codes "ended " ++ cause_text c
 
 -- a line of a side: a space, the side, a space and the words
-abbrev pub event_line : Side → EndEvent → List ℕ
+abbrev pub event_line : Side → SideEvent → List ℕ
 event_line side e = codes " " ++ side_word side ++ codes " " ++ event_text side e ++ line_feed
 
 -- the bytes that a side emitted, as a line where there are any

@@ -1,6 +1,8 @@
 //! The reports of runs.
 #![tactic(auto)]
 
+mod events;
+mod requests;
 mod running;
 mod summary;
 mod words;

@@ -1,20 +1,23 @@
 //! Running a script and reporting its run.
 
-ghost use Rattle.std.specs.Prelude.{◌≡◌, ◌≤◌, ◌++◌, [], length, drop, false, codes, OnOk, OnErr, IfOk};
+ghost use Rattle.std.specs.Prelude.{◌≡◌, ◌≤◌, ◌++◌, [], length, drop, true, false, codes, OnOk, OnErr, IfOk};
 ghost use Rattle.std.specs.Fmt.{decimal};
-ghost use Rattle.mux_run.specs.Run.{run, side_of, start, terms_of};
+ghost use Rattle.std.specs.List.{flat_map};
+ghost use Rattle.mux_run.specs.Run.{terms_of};
+ghost use Rattle.endpoint_run.specs.Answers.{are_built_steps, is_built_step, run, side_of};
+ghost use Rattle.endpoint_run.specs.Run.{start};
+ghost use Rattle.endpoint_run.specs.declared.answers.DuoAnswer.{DuoAnswer};
 ghost use Rattle.duo_world.specs.Holding.{StandsForRun};
 ghost use Rattle.duo_world.specs.Stepping.{IsStepped};
-ghost use Rattle.mux_run.specs.declared.answers.DuoAnswer.{DuoAnswer};
-ghost use Rattle.std.specs.List.{flat_map};
 ghost use Rattle.transcript.specs.Words.{event_line, emitted_line};
 ghost use Rattle.transcript.specs.Ran.{HasRun};
 ghost use Rattle.transcript.specs.Report.{answer_lines, step_lines, steps_lines, opening_lines, closing_lines, report_text};
 
+use crate::events::push_event_line;
 use crate::summary::push_summary;
-use crate::words::{push_emitted_line, push_event_line, push_reply};
+use crate::words::{push_emitted_line, push_reply};
 use duo_world::Duo;
-use mux_run::{DuoAnswer, EndEvent, Side, Step};
+use endpoint_run::{DuoAnswer, Side, SideEvent, Step};
 use script::Script;
 use std::alloc::Global;
 use text_words::{other_side, push_decimal, push_line_feed, push_text};
@@ -31,11 +34,16 @@ fn side_of(step: &Step) -> Side
     }
 }
 
-fn push_events(out: &mut Vec<u8>, side: Side, events: &[EndEvent]) -> Result<(), OutOfMemory>
+fn push_events(
+    alloc: Global,
+    out: &mut Vec<u8>,
+    side: Side,
+    events: &[SideEvent],
+) -> Result<(), OutOfMemory>
     ensures { OnOk result (out.new.items ≡ out.old.items ++ flat_map (event_line side) events.now) }
 {
     for event in events {
-        push_event_line(out, side, *event)?;
+        push_event_line(alloc, out, side, event)?;
     }
     Ok(())
 }
@@ -53,13 +61,13 @@ fn push_answer(
         DuoAnswer::Replied(reply, events) => {
             push_reply(alloc, out, side, reply)?;
             push_line_feed(out)?;
-            push_events(out, side, events.as_slice())
+            push_events(alloc, out, side, events.as_slice())
         }
         DuoAnswer::Delivered(count, events) => {
             push_text(out, "delivered ")?;
             push_decimal(out, *count)?;
             push_line_feed(out)?;
-            push_events(out, side, events.as_slice())
+            push_events(alloc, out, side, events.as_slice())
         }
         DuoAnswer::Ended => {
             push_text(out, "ended")?;
@@ -103,7 +111,7 @@ fn push_step(
     step: Step,
 ) -> Result<(), OutOfMemory>
     requires works { duo.old.failed ≡ false }
-    requires stands { StandsForRun duo.old }
+    requires built { is_built_step step ≡ true }
     ensures text { OnOk result (out.new.items ≡ out.old.items ++ step_lines duo.old.terms number step (run duo.old.terms duo.old.steps)) }
     ensures made { OnOk result ((reply : DuoAnswer) × IsStepped duo.old duo.new step reply) }
 {
@@ -135,6 +143,7 @@ fn push_steps(
     requires fresh { duo.old.steps ≡ [] }
     requires works { duo.old.failed ≡ false }
     requires stands { StandsForRun duo.old }
+    requires built { are_built_steps steps.items ≡ true }
     ensures text { OnOk result (out.new.items ≡ out.old.items ++ steps_lines duo.old.terms 1 start steps.items) }
     ensures made { OnOk result (HasRun duo.old.terms steps.items duo.new) }
 {
@@ -159,25 +168,26 @@ fn push_opening(alloc: Global, out: &mut Vec<u8>, duo: &Duo) -> Result<(), OutOf
 }
 
 /// Appends the lines behind the last step: how both sides stand.
-fn push_closing(out: &mut Vec<u8>, duo: &Duo) -> Result<(), OutOfMemory>
+fn push_closing(alloc: Global, out: &mut Vec<u8>, duo: &Duo) -> Result<(), OutOfMemory>
     requires { StandsForRun duo.now }
     ensures { OnOk result (out.new.items ≡ out.old.items ++ closing_lines duo.now.terms (run duo.now.terms duo.now.steps)) }
 {
     push_text(out, "state\n")?;
-    push_summary(out, Side::A, duo.end(Side::A))?;
-    push_summary(out, Side::B, duo.end(Side::B))?;
+    push_summary(alloc, out, Side::A, duo.end(Side::A))?;
+    push_summary(alloc, out, Side::B, duo.end(Side::B))?;
     push_text(out, "end\n")?;
     Ok(())
 }
 
 fn push_report(alloc: Global, out: &mut Vec<u8>, script: Script) -> Result<Duo, OutOfMemory>
+    requires built { are_built_steps script.steps ≡ true }
     ensures text { OnOk result (out.new.items ≡ out.old.items ++ report_text (terms_of script.version script.nonces) script.steps) }
     ensures ran { IfOk result (HasRun (terms_of script.version script.nonces) script.steps) }
 {
     let mut duo = Duo::start(alloc, script.version, script.nonces)?;
     push_opening(alloc, out, &duo)?;
     push_steps(alloc, out, &mut duo, script.steps.into_vec())?;
-    push_closing(out, &duo)?;
+    push_closing(alloc, out, &duo)?;
     Ok(duo)
 }
 
@@ -185,6 +195,7 @@ fn push_report(alloc: Global, out: &mut Vec<u8>, script: Script) -> Result<Duo, 
 ///
 /// The world that ran it is answered: its terms and its steps are the script's. Where memory runs out nothing is appended.
 pub fn report(alloc: Global, script: Script, out: &mut Vec<u8>) -> Result<Duo, OutOfMemory>
+    requires built { are_built_steps script.steps ≡ true }
     ensures text { OnOk result (out.new.items ≡ out.old.items ++ report_text (terms_of script.version script.nonces) script.steps) }
     ensures ran { IfOk result (HasRun (terms_of script.version script.nonces) script.steps) }
     ensures err { OnErr result (out.new.items ≡ out.old.items) }

@@ -1,17 +1,20 @@
 //! How the sides stand at the end of a run.
 
-ghost use Rattle.std.specs.Prelude.{◌≡◌, ◌++◌, ℕ, List, [], OnOk, if◌then◌else◌};
-ghost use Rattle.std.specs.List.{flat_map};
-ghost use Rattle.mux_items.specs.Items.{Item};
-ghost use Rattle.mux_items.specs.Views.{known_keys};
-ghost use Rattle.mux_end.specs.Stands.{MuxStands};
-ghost use Rattle.text_words.specs.Written.{name_at, is_same_side};
-ghost use Rattle.transcript.specs.Report.{tally_text, channel_line_of, channel_line, keys_of, shown_state, summary};
+ghost use Rattle.std.specs.Prelude.{◌≡◌, ◌++◌, ℕ, List, [], codes, OnOk, if◌then◌else◌};
+ghost use Rattle.std.specs.Fmt.{decimal};
+ghost use Rattle.call_table.specs.Table.{shown};
+ghost use Rattle.endpoint_items.specs.Items.{EndItem};
+ghost use Rattle.endpoint.specs.Stands.{Stands};
+ghost use Rattle.text_words.specs.Written.{name_at, is_same_side, side_word};
+ghost use Rattle.transcript.specs.Words.{channel_text};
+ghost use Rattle.transcript.specs.Report.{tally_text, channel_line_of, request_line_of, request_lines, known_lines, channel_lines, shown_state, summary};
 
+use crate::requests::push_outcome;
 use crate::words::{push_cause, push_phase};
-use mux_end::MuxEnd;
+use endpoint::{Endpoint, Look};
 use mux_items::{ChannelKey, Tally};
 use mux_run::Side;
+use std::alloc::Global;
 use text_words::{ChannelName, push_channel, push_decimal, push_line_feed, push_side, push_text};
 use wire_base::{EndState, OutOfMemory};
 
@@ -51,6 +54,66 @@ fn push_channel_line(
     }
 }
 
+/// Appends the front of the line of a request: its side, its channel and its number.
+fn push_request(
+    out: &mut Vec<u8>,
+    side: Side,
+    key: ChannelKey,
+    number: u64,
+) -> Result<(), OutOfMemory>
+    ensures { OnOk result (out.new.items ≡ out.old.items ++ (side_word side ++ codes " " ++ channel_text side key ++ codes " request " ++ decimal number)) }
+{
+    push_side(out, side)?;
+    push_text(out, " ")?;
+    push_channel(out, side, key)?;
+    push_text(out, " request ")?;
+    push_decimal(out, number)
+}
+
+/// Appends the line of a request, by what can be told of it.
+fn push_request_line(
+    alloc: Global,
+    out: &mut Vec<u8>,
+    side: Side,
+    key: ChannelKey,
+    number: u64,
+    look: Look<'_>,
+) -> Result<(), OutOfMemory>
+    ensures { OnOk result (out.new.items ≡ out.old.items ++ request_line_of side key number (shown look.entry)) }
+{
+    match look {
+        Look::Known(outcome) => {
+            push_request(out, side, key, number)?;
+            push_text(out, " ")?;
+            push_outcome(alloc, out, outcome)?;
+            push_line_feed(out)
+        }
+        Look::NotYet => {
+            push_request(out, side, key, number)?;
+            push_text(out, " pending")?;
+            push_line_feed(out)
+        }
+        Look::NoRequest => Ok(()),
+    }
+}
+
+/// Appends the lines of the requests of a channel's connection.
+fn push_requests(
+    alloc: Global,
+    out: &mut Vec<u8>,
+    side: Side,
+    end: &Endpoint,
+    key: ChannelKey,
+) -> Result<(), OutOfMemory>
+    ensures { (items : List EndItem) (at : ℕ) (rest : List ℕ) → Stands end.now items at rest →
+        OnOk result (out.new.items ≡ out.old.items ++ request_lines end.now.mux.version side items key) }
+{
+    for number in 1..=end.last_request(key) {
+        push_request_line(alloc, out, side, key, number, end.outcome(key, number))?;
+    }
+    Ok(())
+}
+
 /// Appends the words of an end that runs or has ended; an end that is stopped has none.
 fn push_state(out: &mut Vec<u8>, state: EndState) -> Result<(), OutOfMemory>
     ensures { OnOk result (out.new.items ≡ out.old.items ++ shown_state state) }
@@ -72,19 +135,35 @@ fn is_offered_by(side: Side, key: ChannelKey, offering: Side) -> bool
     ChannelName::of(side, key).offering == offering
 }
 
-/// Appends the line of a known channel, where this side offered it.
+/// Appends the line of a known channel, and those of its requests.
+fn push_lines(
+    alloc: Global,
+    out: &mut Vec<u8>,
+    side: Side,
+    end: &Endpoint,
+    key: ChannelKey,
+) -> Result<(), OutOfMemory>
+    ensures { (items : List EndItem) (at : ℕ) (rest : List ℕ) → Stands end.now items at rest →
+        OnOk result (out.new.items ≡ out.old.items ++ known_lines end.now.mux.version side items key) }
+{
+    push_channel_line(out, side, key, end.tally(key))?;
+    push_requests(alloc, out, side, end, key)
+}
+
+/// Appends the lines of a known channel, where this side offered it.
 fn push_known(
+    alloc: Global,
     out: &mut Vec<u8>,
     side: Side,
     offering: Side,
-    end: &MuxEnd,
+    end: &Endpoint,
     key: ChannelKey,
 ) -> Result<(), OutOfMemory>
-    ensures { (items : List Item) (at : ℕ) (rest : List ℕ) → MuxStands end.now items at rest →
-        OnOk result (out.new.items ≡ out.old.items ++ (if is_same_side (name_at side key).offering offering then channel_line end.now.version side items key else [])) }
+    ensures { (items : List EndItem) (at : ℕ) (rest : List ℕ) → Stands end.now items at rest →
+        OnOk result (out.new.items ≡ out.old.items ++ (if is_same_side (name_at side key).offering offering then known_lines end.now.mux.version side items key else [])) }
 {
     if is_offered_by(side, key, offering) {
-        push_channel_line(out, side, key, end.tally(key))
+        push_lines(alloc, out, side, end, key)
     } else {
         Ok(())
     }
@@ -92,34 +171,40 @@ fn push_known(
 
 /// Appends the lines of the channels that a side offered.
 fn push_channels(
+    alloc: Global,
     out: &mut Vec<u8>,
     side: Side,
     offering: Side,
-    end: &MuxEnd,
+    end: &Endpoint,
 ) -> Result<(), OutOfMemory>
-    ensures { (items : List Item) (at : ℕ) (rest : List ℕ) → MuxStands end.now items at rest →
-        OnOk result (out.new.items ≡ out.old.items ++ flat_map (channel_line end.now.version side items) (keys_of side offering (known_keys items))) }
+    ensures { (items : List EndItem) (at : ℕ) (rest : List ℕ) → Stands end.now items at rest →
+        OnOk result (out.new.items ≡ out.old.items ++ channel_lines end.now.mux.version side offering items) }
 {
     for i in 0..usize::MAX {
         let Some(key) = end.known(i) else {
             return Ok(());
         };
-        push_known(out, side, offering, end, key)?;
+        push_known(alloc, out, side, offering, end, key)?;
     }
     // No end knows so many channels that their list would go on here.
     Err(OutOfMemory)
 }
 
 /// Appends how a side stands, and its channels: those that A offered, then those that B offered.
-pub(crate) fn push_summary(out: &mut Vec<u8>, side: Side, end: &MuxEnd) -> Result<(), OutOfMemory>
-    ensures { (items : List Item) (at : ℕ) (rest : List ℕ) → MuxStands end.now items at rest →
-        OnOk result (out.new.items ≡ out.old.items ++ summary end.now.version side items) }
+pub(crate) fn push_summary(
+    alloc: Global,
+    out: &mut Vec<u8>,
+    side: Side,
+    end: &Endpoint,
+) -> Result<(), OutOfMemory>
+    ensures { (items : List EndItem) (at : ℕ) (rest : List ℕ) → Stands end.now items at rest →
+        OnOk result (out.new.items ≡ out.old.items ++ summary end.now.mux.version side items) }
 {
     push_side(out, side)?;
     push_text(out, " ")?;
     push_state(out, end.state())?;
     push_line_feed(out)?;
-    push_channels(out, side, Side::A, end)?;
-    push_channels(out, side, Side::B, end)?;
+    push_channels(alloc, out, side, Side::A, end)?;
+    push_channels(alloc, out, side, Side::B, end)?;
     Ok(())
 }

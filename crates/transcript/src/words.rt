@@ -1,11 +1,12 @@
 //! The words of a report, each appended to a text.
 
-ghost use Rattle.std.specs.Prelude.{◌≡◌, ◌++◌, codes, OnOk};
-ghost use Rattle.std.specs.Fmt.{decimal};
-ghost use Rattle.transcript.specs.Words.{channel_text, cause_text, phase_text, refusal_text, reply_text, mux_event_text, event_text, event_line, emitted_line};
+ghost use Rattle.std.specs.Prelude.{◌≡◌, ◌++◌, OnOk};
+ghost use Rattle.transcript.specs.Words.{cause_text, phase_text, refusal_text, reply_text, emitted_line};
 
-use mux_items::{ChannelKey, MuxEvent, Phase};
-use mux_run::{EndEvent, Reply, Side};
+use crate::requests::push_outcome;
+use endpoint_items::Reply;
+use mux_items::Phase;
+use mux_run::Side;
 use std::alloc::Global;
 use text_words::{
     push_bytes, push_channel, push_decimal, push_hex, push_line_feed, push_side, push_text,
@@ -70,77 +71,15 @@ pub(crate) fn push_reply(
             push_text(out, "bytes ")?;
             push_bytes(alloc, out, bytes.as_bytes())
         }
+        Reply::Number(number) => {
+            push_text(out, "request ")?;
+            push_decimal(out, *number)
+        }
+        Reply::Known(outcome) => push_outcome(alloc, out, outcome),
+        Reply::NotYet => push_text(out, "pending"),
         Reply::Refused(refusal) => push_refusal(out, refusal),
         Reply::OutOfMemory => Ok(()),
     }
-}
-
-fn push_word_and_channel(
-    out: &mut Vec<u8>,
-    word: &str,
-    side: Side,
-    key: ChannelKey,
-) -> Result<(), OutOfMemory>
-    ensures { OnOk result (out.new.items ≡ out.old.items ++ (word.now ++ channel_text side key)) }
-{
-    push_text(out, word)?;
-    push_channel(out, side, key)
-}
-
-fn push_count(out: &mut Vec<u8>, count: u64) -> Result<(), OutOfMemory>
-    ensures { OnOk result (out.new.items ≡ out.old.items ++ (codes " " ++ decimal count)) }
-{
-    push_text(out, " ")?;
-    push_decimal(out, count)
-}
-
-fn push_mux_event(out: &mut Vec<u8>, side: Side, event: MuxEvent) -> Result<(), OutOfMemory>
-    ensures { OnOk result (out.new.items ≡ out.old.items ++ mux_event_text side event) }
-{
-    match event {
-        MuxEvent::Ready => push_text(out, "ready"),
-        MuxEvent::Offered(key) => push_word_and_channel(out, "offered ", side, key),
-        MuxEvent::Rejected(key) => push_word_and_channel(out, "rejected ", side, key),
-        MuxEvent::Accepted(key) => push_word_and_channel(out, "accepted ", side, key),
-        MuxEvent::Content(key, count) => {
-            push_word_and_channel(out, "content ", side, key)?;
-            push_count(out, count as u64)
-        }
-        MuxEvent::Completed(key) => push_word_and_channel(out, "completed ", side, key),
-        MuxEvent::Closed(key) => push_word_and_channel(out, "closed ", side, key),
-        MuxEvent::Credit(key, count) => {
-            push_word_and_channel(out, "credit ", side, key)?;
-            push_count(out, count)
-        }
-        MuxEvent::Ignored(key) => push_word_and_channel(out, "ignored ", side, key),
-    }
-}
-
-fn push_event(out: &mut Vec<u8>, side: Side, event: EndEvent) -> Result<(), OutOfMemory>
-    ensures { OnOk result (out.new.items ≡ out.old.items ++ event_text side event) }
-{
-    match event {
-        EndEvent::Mux(event) => push_mux_event(out, side, event),
-        EndEvent::Ended(cause) => {
-            push_text(out, "ended ")?;
-            push_cause(out, cause)
-        }
-    }
-}
-
-/// Appends the line of an event.
-pub(crate) fn push_event_line(
-    out: &mut Vec<u8>,
-    side: Side,
-    event: EndEvent,
-) -> Result<(), OutOfMemory>
-    ensures { OnOk result (out.new.items ≡ out.old.items ++ event_line side event) }
-{
-    push_text(out, " ")?;
-    push_side(out, side)?;
-    push_text(out, " ")?;
-    push_event(out, side, event)?;
-    push_line_feed(out)
 }
 
 /// Appends what a side emitted in a step, as a line where there is any.

@@ -1,9 +1,12 @@
 //! What a side does in a step, and how that is drawn.
 
+ghost use Rattle.endpoint_run.specs.Answers.{is_built_step};
+ghost use Rattle.std.specs.Prelude.{◌≡◌, IfOk, true};
+
 use crate::channels::Channel;
 use crate::draws::Draws;
+use endpoint_run::{Call, Side, Step};
 use mux_items::ChannelKey;
-use mux_run::{Call, Side, Step};
 use std::alloc::Global;
 use wire_base::{Blob, OutOfMemory, Text};
 
@@ -40,17 +43,19 @@ fn content(alloc: Global, size: u32) -> Result<Blob, OutOfMemory> {
     Blob::from_bytes(alloc, BYTES.get(..size as usize).unwrap_or(BYTES))
 }
 
-pub fn step_of(alloc: Global, side: Side, makes: Move) -> Result<Step, OutOfMemory> {
+pub fn step_of(alloc: Global, side: Side, makes: Move) -> Result<Step, OutOfMemory>
+    ensures { IfOk result (λ s. is_built_step s ≡ true) }
+{
     let call = match makes {
-        Move::Offer(window) => Call::Offer(Text::from_str(alloc, "trial")?, window),
-        Move::Accept(key, window) => Call::Accept(key, window),
-        Move::Write(key, size) => Call::Write(key, content(alloc, size)?),
-        Move::Read(key, max) => Call::Read(key, max),
-        Move::Complete(key) => Call::Complete(key),
-        Move::Terminate(key) => Call::Terminate(key),
+        Move::Offer(window) => mux_items::Call::Offer(Text::from_str(alloc, "trial")?, window),
+        Move::Accept(key, window) => mux_items::Call::Accept(key, window),
+        Move::Write(key, size) => mux_items::Call::Write(key, content(alloc, size)?),
+        Move::Read(key, max) => mux_items::Call::Read(key, max),
+        Move::Complete(key) => mux_items::Call::Complete(key),
+        Move::Terminate(key) => mux_items::Call::Terminate(key),
         Move::Deliver(count) => return Ok(Step::Deliver(side, count)),
     };
-    Ok(Step::Call(side, call))
+    Ok(Step::Call(side, Call::Mux(call)))
 }
 
 /// One of the newest channels, or none where there are few.

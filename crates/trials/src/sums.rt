@@ -2,7 +2,7 @@
 
 use crate::channels::Channel;
 use crate::flight::{Brings, SeenFrame};
-use mux_end::MuxEnd;
+use endpoint::Endpoint;
 use mux_items::{ChannelView, Phase, Tally};
 use mux_run::Side;
 use wire_base::EndState;
@@ -11,7 +11,7 @@ use wire_base::EndState;
 #[derive(Clone, Copy)]
 pub struct Seen<'a> {
     pub side: Side,
-    pub end: &'a MuxEnd,
+    pub end: &'a Endpoint,
     pub ahead: &'a [SeenFrame],
 }
 

@@ -4,7 +4,7 @@ use crate::channels::Channel;
 use crate::flight::{Emitted, SeenFrame};
 use crate::sums::{Seen, direction_of};
 use crate::trial::{Met, Trial, Wrong};
-use mux_end::MuxEnd;
+use endpoint::Endpoint;
 use mux_items::ChannelKey;
 use mux_run::Side;
 use std::alloc::Global;
@@ -72,49 +72,49 @@ const AT_B: ChannelKey = ChannelKey { id: 1, own: false };
 /// At least as many steps as there are frames in what is fed at once.
 const FRAMES: usize = 4;
 
-fn start(alloc: Global) -> Result<MuxEnd, OutOfMemory> {
-    MuxEnd::start(alloc, Version::Three, [0; 16])
+fn start(alloc: Global) -> Result<Endpoint, OutOfMemory> {
+    Endpoint::start(alloc, Version::Three, [0; 16])
 }
 
-fn offer(alloc: Global, end: &mut MuxEnd) -> Result<(), Fail> {
+fn offer(alloc: Global, end: &mut Endpoint) -> Result<(), Fail> {
     let _key = end.offer(&Text::from_str(alloc, "trial")?, CHANNEL.offered)?;
     Ok(())
 }
 
-fn accept(end: &mut MuxEnd) -> Result<(), Fail> {
+fn accept(end: &mut Endpoint) -> Result<(), Fail> {
     Ok(end.accept(AT_B, CHANNEL.accepted)?)
 }
 
-fn write(end: &mut MuxEnd) -> Result<(), Fail> {
+fn write(end: &mut Endpoint) -> Result<(), Fail> {
     Ok(end.write(AT_A, b"abc")?)
 }
 
-fn read(alloc: Global, end: &mut MuxEnd) -> Result<(), Fail> {
+fn read(alloc: Global, end: &mut Endpoint) -> Result<(), Fail> {
     let mut bytes = Vec::new(alloc);
     let _count = end.read(AT_B, 2, &mut bytes)?;
     Ok(())
 }
 
-fn feed(from: &MuxEnd, to: &mut MuxEnd) -> Result<(), OutOfMemory> {
+fn feed(from: &Endpoint, to: &mut Endpoint) -> Result<(), OutOfMemory> {
     let _state = to.feed(from.pending_output())?;
     Ok(())
 }
 
 /// Applies all that was fed.
-fn apply(end: &mut MuxEnd) {
+fn apply(end: &mut Endpoint) {
     for _ in 0..FRAMES {
         let _step = end.step();
     }
 }
 
 /// Drops what an end has to send.
-fn lose(end: &mut MuxEnd) {
+fn lose(end: &mut Endpoint) {
     let count = end.pending_output().len();
     end.took(count);
 }
 
 /// Brings what one end has to send to the other.
-fn pass(from: &mut MuxEnd, to: &mut MuxEnd) -> Result<(), OutOfMemory> {
+fn pass(from: &mut Endpoint, to: &mut Endpoint) -> Result<(), OutOfMemory> {
     feed(from, to)?;
     lose(from);
     apply(to);
@@ -122,7 +122,7 @@ fn pass(from: &mut MuxEnd, to: &mut MuxEnd) -> Result<(), OutOfMemory> {
 }
 
 /// Two ends where A's channel is live.
-fn pair(alloc: Global) -> Result<(MuxEnd, MuxEnd), Fail> {
+fn pair(alloc: Global) -> Result<(Endpoint, Endpoint), Fail> {
     let mut a = start(alloc)?;
     let mut b = start(alloc)?;
     offer(alloc, &mut a)?;
@@ -132,14 +132,14 @@ fn pair(alloc: Global) -> Result<(MuxEnd, MuxEnd), Fail> {
     Ok((a, b))
 }
 
-fn in_flight(alloc: Global, end: &MuxEnd) -> Result<Vec<SeenFrame>, OutOfMemory> {
+fn in_flight(alloc: Global, end: &Endpoint) -> Result<Vec<SeenFrame>, OutOfMemory> {
     let mut emitted = Emitted::new(alloc, Version::Three);
     emitted.note(0, end.pending_output())?;
     Ok(emitted.frames()?.unwrap_or(Vec::new(alloc)))
 }
 
 /// Whether the credit of A's writing adds up.
-fn keeps_credit(alloc: Global, a: &MuxEnd, b: &MuxEnd) -> Result<bool, OutOfMemory> {
+fn keeps_credit(alloc: Global, a: &Endpoint, b: &Endpoint) -> Result<bool, OutOfMemory> {
     let from_a = in_flight(alloc, a)?;
     let from_b = in_flight(alloc, b)?;
     let writer = Seen {

@@ -6,8 +6,8 @@ use crate::flight::Emitted;
 use crate::moves::{ALL, Move, draw_move, step_of};
 use crate::sums::{Direction, Seen, direction_of};
 use duo_world::Duo;
+use endpoint_run::{DuoAnswer, Reply, Side};
 use mux_items::ChannelKey;
-use mux_run::{DuoAnswer, Reply, Side};
 use std::alloc::Global;
 use wire_base::{EndState, OutOfMemory, Version};
 

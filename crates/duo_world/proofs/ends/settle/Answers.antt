@@ -1,5 +1,5 @@
 use Rattle.std.proofs.Common.{◌∙◌, sym}
-use Rattle.duo_world.proofs.Arriving.{begins, stopped_settles, goes_on, short_settles, ended_settles}
+use Rattle.duo_world.proofs.Arriving.{begins, stopped_settles, goes_on_with, short_settles, ended_settles}
 use Rattle.duo_world.proofs.ends.settle.Goals as goal
 
 pub returns-then-not-is_running : goal.returns-then-not-is_running
@@ -10,7 +10,7 @@ steps-init c = λ w d older items y m. begins w d older _ _ items y m (sym c.is_
 
 pub steps-preserved : goal.steps-preserved
 steps-preserved c = λ w d older items y m.
-    goes_on w d older c.steps.own c.step.new.self c.steps.events c.push.new.self items y c.in-Event.event (c.steps.invariant w d older items y m) c.in-Event.ensures.answers c.in_ok-push-in-Event.ensures.ok
+    goes_on_with w d older c.steps.own c.step.new.self c.steps.events c.push.new.self items y c.in-Event.event (c.steps.invariant w d older items y m) c.in-Event.ensures.answers c.in_ok-push-in-Event.ensures.ok
 
 pub returns-in-Short : goal.returns-in-Short
 returns-in-Short c = λ w d older items y m.

@@ -1,5 +1,6 @@
 use Rattle.std.proofs.Common.{sym, subst, IfOk}
-use Rattle.mux_run.specs.declared.answers.DuoAnswer.TheVariants as duo
+use Rattle.endpoint_run.specs.declared.answers.DuoAnswer.TheVariants as duo
+use Rattle.endpoint_run.specs.Run.{mux_side}
 use Rattle.duo_world.specs.Holding.{place_of, rest_of}
 use Rattle.duo_world.specs.Stepping.{StepsAt}
 use Rattle.duo_world.proofs.Answering.{ended_steps}
@@ -16,4 +17,5 @@ returns-in-Deliver c = λ w x y r.
 pub returns-in-End : goal.returns-in-End
 returns-in-End c = λ w x y r.
     subst (λ s. StepsAt w s c.end_of_input.new.self c.args.peer.now x y duo.Ended) (sym c.in-End.is)
-    (ended_steps w c.in-End.field-0 c.args.own.now c.end_of_input.new.self c.args.peer.now x y r (c.end_of_input.ensures.answers x.items (place_of w x y) (rest_of w x y) r.stand.at_own.stands))
+    (ended_steps w c.in-End.field-0 c.args.own.now c.end_of_input.new.self c.args.peer.now x y r
+    (c.end_of_input.ensures.answers x.items (place_of w (mux_side w.version x) (mux_side w.version y)) (rest_of w (mux_side w.version x) (mux_side w.version y)) r.stand.at_own.stands))

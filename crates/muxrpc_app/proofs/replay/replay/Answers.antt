@@ -1,10 +1,9 @@
 use Rattle.std.proofs.Common.{◌≡◌, ◌∙◌, ap, sym, take}
 use Rattle.std.specs.Io.KnownBytes.{append_known}
-use Rattle.mux_run.proofs.Safety.{run_safe}
-use Rattle.mux_credit.proofs.Runs.{run_keeps_credit}
 use Rattle.script.specs.Found.{script_in}
 use Rattle.transcript.specs.Report.{report_text}
 use Rattle.mux_run.specs.Run.{terms_of}
+use Rattle.transcript.proofs.Reported.{run_holds}
 use Rattle.muxrpc_app.proofs.Scripts.{script_read}
 use Rattle.muxrpc_app.proofs.replay.replay.Goals as goal
 
@@ -18,8 +17,7 @@ returns-in-Ok-write_output g c =
         script = script_read c.in-Ok.bytes.items s e.bytes e.within e.ended e.at_end (ap script_in (sym c.deref.ensures.value) ∙ c.in-Ok-read_script.ensures.exact);
         written = c.in-Ok-write_output.ensures.written ∙ ap (append_known (g.K.Sink.given c.args.output.now)) text;
         flushed = c.in-Ok-write_output.ensures.flushed;
-        safe = run_safe (terms_of s.version s.nonces) s.steps;
-        credit = run_keeps_credit (terms_of s.version s.nonces) s.steps;
+        holds = run_holds (terms_of s.version s.nonces) s.steps;
       };
     }
 

@@ -1,5 +1,5 @@
 use Rattle.mux_run.specs.declared.steps.Side.TheVariants.{A, B}
-use Rattle.mux_run.specs.Run.{run}
+use Rattle.endpoint_run.specs.Answers.{run}
 use Rattle.transcript.proofs.Whole.{closing_is, summary_told}
 use Rattle.transcript.proofs.running.push_closing.Goals as goal
 

@@ -1,5 +1,6 @@
 use Rattle.std.proofs.Common.{◌++◌, ap, ◌∙◌, subst}
-use Rattle.mux_run.specs.Run.{start, terms_of}
+use Rattle.mux_run.specs.Run.{terms_of}
+use Rattle.endpoint_run.specs.Run.{start}
 use Rattle.transcript.specs.Ran.{HasRun}
 use Rattle.transcript.specs.Report.{steps_lines}
 use Rattle.transcript.proofs.Whole.{report_is, has_run}

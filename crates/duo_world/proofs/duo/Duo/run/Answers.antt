@@ -1,9 +1,5 @@
-use Rattle.mux_run.proofs.Safety.{run_safe}
-use Rattle.mux_credit.proofs.Runs.{run_keeps_credit}
+use Rattle.duo_world.proofs.Worlds.{run_holds}
 use Rattle.duo_world.proofs.duo.Duo.run.Goals as goal
 
-pub returns-clause-safe : goal.returns-clause-safe
-returns-clause-safe c = run_safe c.loop-step.duo.terms c.loop-step.duo.steps
-
-pub returns-clause-credit : goal.returns-clause-credit
-returns-clause-credit c = run_keeps_credit c.loop-step.duo.terms c.loop-step.duo.steps
+pub returns-clause-holds : goal.returns-clause-holds
+returns-clause-holds c = run_holds _ _

@@ -1,0 +1,73 @@
+//! Which steps are built.
+
+ghost use Rattle.std.specs.Prelude.{◌≡◌};
+ghost use Rattle.endpoint_items.specs.Built.{is_built_call};
+ghost use Rattle.endpoint_run.specs.Answers.{is_built_step};
+ghost use Rattle.rpc_end.specs.Built.{are_plain, is_plain, is_plain_answer, is_plain_arg};
+ghost use Rattle.script.specs.Given.{Gives};
+ghost use Rattle.script.specs.Steps.{if_built};
+
+use crate::fault::LineFault;
+use crate::line_step::LineStep;
+use crate::reason::ScriptReason;
+use endpoint_items::Call;
+use endpoint_run::Step;
+use rpc_end::{Answer, Arg, Arguments, Expect};
+
+fn is_plain_arg(arg: &Arg) -> bool
+    ensures { result ≡ is_plain_arg arg.now }
+{
+    matches!(arg, Arg::Plain(_))
+}
+
+fn are_plain(args: &Arguments) -> bool
+    ensures { result ≡ are_plain args.now }
+{
+    match args {
+        Arguments::List(args) => args.as_slice().iter().all(|arg| is_plain_arg(arg)),
+        Arguments::Absent | Arguments::Named(_) => true,
+    }
+}
+
+fn is_plain(expect: Expect) -> bool
+    ensures { result ≡ is_plain expect }
+{
+    matches!(expect, Expect::Plain)
+}
+
+fn is_plain_answer(answer: &Answer) -> bool
+    ensures { result ≡ is_plain_answer answer.now }
+{
+    matches!(answer, Answer::Value(_) | Answer::Fault(_, _, _))
+}
+
+fn is_built_call(call: &Call) -> bool
+    ensures { result ≡ is_built_call call.now }
+{
+    match call {
+        Call::Request(_, _, args, expect) => are_plain(args) && is_plain(*expect),
+        Call::Notify(_, _, args) => are_plain(args),
+        Call::Respond(_, _, answer) => is_plain_answer(answer),
+        Call::Mux(_) | Call::Attach(_, _) | Call::Outcome(_, _) | Call::Forget(_, _) => true,
+    }
+}
+
+fn is_built_step(step: &Step) -> bool
+    ensures { result ≡ is_built_step step.now }
+{
+    match step {
+        Step::Call(_, call) => is_built_call(call),
+        Step::Deliver(_, _) | Step::End(_) => true,
+    }
+}
+
+/// A line whose step is built.
+pub fn built(line: LineStep) -> Result<LineStep, LineFault>
+    ensures { Gives (λ l. l) result (if_built line) }
+{
+    if is_built_step(&line.step) {
+        Ok(line)
+    } else {
+        Err(LineFault::Refused(ScriptReason::NotBuilt))
+    }
+}
