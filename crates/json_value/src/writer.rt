@@ -7,6 +7,7 @@ ghost use Rattle.wire_base.specs.Values.{max_nesting, nesting, holds_bytes};
 ghost use Rattle.json_value.specs.Normal.{norm, norm_items, norm_onto};
 ghost use Rattle.json_value.specs.Json.{hex_text, shown_bytes, data_of, data_items, data_members, shown, json_text};
 ghost use Rattle.json_value.specs.Reading.{IsReading};
+ghost use Rattle.json_value.specs.Value.{IsValue, AreValues, ArePairs};
 
 use crate::fault::JsonWrite;
 use serde_json::{Map, Number, Value};
@@ -70,7 +71,8 @@ fn value_of_bytes(alloc: Global, bytes: &[u8]) -> Result<Value, OutOfMemory>
 #[cycle(back)]
 #[tactic(auto, using(wire_base::proofs::Walks::walks))]
 fn value_of(alloc: Global, value: &Datum) -> Result<Value, OutOfMemory>
-    ensures { IfOk result (λ v. view v ≡ data_of (norm value.now)) }
+    ensures same { IfOk result (λ v. view v ≡ data_of (norm value.now)) }
+    ensures valid { OnOk result (IsValue value.now) }
 {
     match &value.node {
         Node::Nil => Ok(Value::Null),
@@ -86,7 +88,8 @@ fn value_of(alloc: Global, value: &Datum) -> Result<Value, OutOfMemory>
 #[cycle(back)]
 #[tactic(auto, using(wire_base::proofs::Walks::walks))]
 fn values_of(alloc: Global, items: &DatumList) -> Result<Vec<Value>, OutOfMemory>
-    ensures { IfOk result (λ v. items_view v.items ≡ data_items (norm_items (trees_of items.now))) }
+    ensures same { IfOk result (λ v. items_view v.items ≡ data_items (norm_items (trees_of items.now))) }
+    ensures valid { OnOk result (AreValues (trees_of items.now)) }
 {
     let mut values = Vec::new(alloc);
     for item in items.as_slice() {
@@ -99,8 +102,9 @@ fn values_of(alloc: Global, items: &DatumList) -> Result<Vec<Value>, OutOfMemory
 #[cycle(back)]
 #[tactic(auto, using(wire_base::proofs::Walks::walks))]
 fn members_of(alloc: Global, pairs: &PairList) -> Result<Map<String, Value>, OutOfMemory>
-    ensures { IfOk result (λ m. members_view m.entries
+    ensures same { IfOk result (λ m. members_view m.entries
         ≡ data_members (norm_onto no_pairs (pairs_of pairs.now))) }
+    ensures valid { OnOk result (ArePairs (pairs_of pairs.now)) }
 {
     let mut members = Map::new(alloc);
     for pair in pairs.as_slice() {
@@ -114,6 +118,7 @@ fn members_of(alloc: Global, pairs: &PairList) -> Result<Map<String, Value>, Out
 #[tactic(auto, using(crate::proofs::ReadsBack::texts))]
 fn text_of(alloc: Global, value: &Datum) -> Result<Vec<u8>, OutOfMemory>
     ensures text { IfOk result (λ b. b.items ≡ shown value.now) }
+    ensures valid { OnOk result (IsValue value.now) }
     ensures utf8 { OnOk result (IsUtf8 (shown value.now)) }
     ensures reads_back { OnOk result (nesting value.now ≤ max_nesting → holds_bytes value.now ≡ false
         → IsReading (shown value.now) (norm value.now)) }
@@ -125,6 +130,7 @@ fn text_of(alloc: Global, value: &Datum) -> Result<Vec<u8>, OutOfMemory>
 /// Appends the text that shows a value: its JSON text, in which bytes are an object `{"$bytes":HEX}`.
 pub fn show(alloc: Global, value: &Datum, out: &mut Vec<u8>) -> Result<(), OutOfMemory>
     ensures ok { OnOk result (out.new.items ≡ out.old.items ++ shown value.now) }
+    ensures valid { OnOk result (IsValue value.now) }
     ensures utf8 { OnOk result (IsUtf8 (shown value.now)) }
     ensures reads_back { OnOk result (nesting value.now ≤ max_nesting → holds_bytes value.now ≡ false
         → IsReading (shown value.now) (norm value.now)) }
@@ -139,6 +145,7 @@ pub fn show(alloc: Global, value: &Datum, out: &mut Vec<u8>) -> Result<(), OutOf
 /// repeated key the last.
 pub fn write(alloc: Global, value: &Datum, out: &mut Vec<u8>) -> Result<(), JsonWrite>
     ensures ok { OnOk result (out.new.items ≡ out.old.items ++ json_text value.now) }
+    ensures valid { OnOk result (IsValue value.now) }
     ensures reads_back { OnOk result (IsReading (json_text value.now) (norm value.now)) }
     ensures deep { IsErrOf result JsonWrite.TooDeep ↔ (max_nesting < nesting value.now) }
     ensures bytes { IsErrOf result JsonWrite.BytesInJson
