@@ -167,6 +167,7 @@ fn put_value(value: &Datum, out: &mut Vec<u8>) -> Result<(), OutOfMemory>
 #[tactic(auto, using(wire_base::proofs::AppendsLemmas::front_is_kept))]
 pub fn encode(value: &Datum, out: &mut Vec<u8>) -> Result<(), EncodeFault>
     ensures ok { OnOk result (out.new.items ≡ out.old.items ++ shortest value.now) }
+    ensures valid { OnOk result (IsValue value.now) }
     ensures spelled { OnOk result (IsSpelling value.now (shortest value.now)) }
     ensures deep { IsErrOf result EncodeFault.TooDeep ↔ (max_nesting < nesting value.now) }
     ensures long { IsErrOf result EncodeFault.TooLong ↔ (nesting value.now ≤ max_nesting) × (lengths_fit value.now ≡ false) }
