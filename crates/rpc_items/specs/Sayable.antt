@@ -12,6 +12,13 @@ abbrev pub IsNamedIf : Option Id → Type 0
 IsNamedIf (Some id) = IsNamed id
 IsNamedIf None = Unit {0}
 
+-- the id of a message, where it has one, is one that a value can tell
+abbrev pub HasNamedId : Message → Type 0
+HasNamedId (Request id method params) = IsNamed id
+HasNamedId (Notification method params) = Unit {0}
+HasNamedId (message.Result id value) = IsNamed id
+HasNamedId (message.Error id code text more) = IsNamedIf id
+
 -- a message whose id and code a value can tell
 abbrev pub IsSayable : Message → Type 0
 IsSayable (Request id method params) = IsNamed id
