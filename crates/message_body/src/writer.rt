@@ -2,9 +2,12 @@
 
 ghost use Rattle.std.specs.Prelude.{◌≡◌, ◌<◌, ◌≤◌, ◌++◌, length, OnOk, OnErr};
 ghost use Rattle.json_value.specs.Json.{json_text};
+ghost use Rattle.json_value.specs.Value.{IsValue};
 ghost use Rattle.pack_value.specs.Shortest.{shortest};
 ghost use Rattle.rpc_items.specs.Bodies.{body_refusal, most_body};
+ghost use Rattle.rpc_items.specs.Sayable.{HasNamedId};
 ghost use Rattle.rpc_items.specs.Writing.{message_value};
+ghost use Rattle.message_body.specs.AsRead.{IsMessage};
 ghost use Rattle.message_body.specs.Replies.{Puts, Writes};
 ghost use Rattle.message_body.specs.Written.{body_text, encoder, value_text};
 ghost use Rattle.message_body.specs.declared.encoding.Encoding.{Encoding};
@@ -23,6 +26,7 @@ const MAX_BODY: usize = 16_777_216;
 /// Appends a value's JSON text, whatever its length.
 fn put_json(alloc: Global, value: &Datum, out: &mut Vec<u8>) -> Result<(), CallFault>
     ensures ok { OnOk result (out.new.items ≡ out.old.items ++ json_text value.now) }
+    ensures valid { OnOk result (IsValue value.now) }
     ensures answer { Puts Encoding.Json value.now result }
     ensures err { OnErr result (out.new.items ≡ out.old.items) }
 {
@@ -40,6 +44,7 @@ fn put_json(alloc: Global, value: &Datum, out: &mut Vec<u8>) -> Result<(), CallF
 /// Appends a value's shortest spelling, whatever its length.
 fn put_pack(value: &Datum, out: &mut Vec<u8>) -> Result<(), CallFault>
     ensures ok { OnOk result (out.new.items ≡ out.old.items ++ shortest value.now) }
+    ensures valid { OnOk result (IsValue value.now) }
     ensures answer { Puts Encoding.Pack value.now result }
     ensures err { OnErr result (out.new.items ≡ out.old.items) }
 {
@@ -54,6 +59,7 @@ fn put_pack(value: &Datum, out: &mut Vec<u8>) -> Result<(), CallFault>
 /// Appends a value, whatever its length.
 fn put(alloc: Global, encoding: Encoding, value: &Datum, out: &mut Vec<u8>) -> Result<(), CallFault>
     ensures ok { OnOk result (out.new.items ≡ out.old.items ++ value_text encoding value.now) }
+    ensures valid { OnOk result (IsValue value.now) }
     ensures answer { Puts encoding value.now result }
     ensures err { OnErr result (out.new.items ≡ out.old.items) }
 {
@@ -71,6 +77,7 @@ fn put_body(
     out: &mut Vec<u8>,
 ) -> Result<(), CallFault>
     ensures ok { OnOk result (out.new.items ≡ out.old.items ++ value_text encoding value.now) }
+    ensures valid { OnOk result (IsValue value.now) }
     ensures fits { OnOk result (length (value_text encoding value.now) ≤ most_body) }
     ensures answer { Writes (body_refusal (encoder encoding) value.now) result }
     ensures err { OnErr result (out.new.items ≡ out.old.items) }
@@ -93,6 +100,7 @@ pub fn write(
     out: &mut Vec<u8>,
 ) -> Result<(), CallFault>
     ensures ok { OnOk result (out.new.items ≡ out.old.items ++ body_text encoding message.now) }
+    ensures message { OnOk result (HasNamedId message.now → IsMessage message.now) }
     ensures fits { OnOk result ((0 < length (body_text encoding message.now)) × (length (body_text encoding message.now) ≤ most_body)) }
     ensures answer { Writes (body_refusal (encoder encoding) (message_value message.now)) result }
     ensures err { OnErr result (out.new.items ≡ out.old.items) }
