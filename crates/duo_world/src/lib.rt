@@ -5,6 +5,3 @@ mod duo;
 mod ends;
 
 pub use duo::Duo;
-
-#[cfg(test)]
-mod tests;

@@ -20,6 +20,3 @@ pub use rpc_end::{
     Params, RpcEvent, Target,
 };
 pub use step::EndStep;
-
-#[cfg(test)]
-mod tests;

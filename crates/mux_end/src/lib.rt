@@ -18,6 +18,3 @@ pub use end::MuxEnd;
 pub use mux_items::{ChannelKey, ChannelView, MuxEvent, Phase, Tally};
 pub use party::{precedes, same_key};
 pub use step::MuxStep;
-
-#[cfg(test)]
-mod tests;

@@ -2,21 +2,13 @@
 #![tactic(auto)]
 
 mod command;
-#[cfg(test)]
-mod connection_rows;
 mod input;
 mod output;
 mod replay;
-#[cfg(test)]
-mod rows;
 mod run;
 mod standard_error;
 mod status;
-#[cfg(test)]
-mod tests;
 mod view;
-#[cfg(test)]
-mod view_rows;
 mod words;
 
 pub use command::run_command;

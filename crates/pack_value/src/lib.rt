@@ -15,6 +15,3 @@ pub use laws::{
     fronts_are_known, refusals_stay, shortest_is_read, spelled_fits, spellings_are_apart,
 };
 pub use step::Step;
-
-#[cfg(test)]
-mod tests;

@@ -22,6 +22,3 @@ pub use rpc_items::{
 };
 pub use step::RpcStep;
 pub use terms::Terms;
-
-#[cfg(test)]
-mod tests;

@@ -20,6 +20,3 @@ pub use laws::{
 };
 pub use reading::{Script, read_script};
 pub use reason::ScriptReason;
-
-#[cfg(test)]
-mod tests;

@@ -1,0 +1,178 @@
+//! What an end answers, as text. A channel is told by the letter of the side that offered it and its id.
+
+use endpoint::{
+    ChannelKey, ChannelView, EndEvent, EndStep, MuxEvent, Outcome, Params, Reply, RpcEvent, Tally,
+};
+use std::alloc::Global;
+use std::test::Fail;
+use wire_base::{Cause, Datum, EndState, Id, Node};
+
+pub fn word(alloc: Global, word: &str) -> Result<String, Fail> {
+    Ok(String::from_str(alloc, word)?)
+}
+
+/// The letter of the other side.
+pub fn other(side: &str) -> &'static str {
+    match side {
+        "A" => "B",
+        _ => "A",
+    }
+}
+
+pub fn of_key(alloc: Global, side: &str, key: ChannelKey) -> Result<String, Fail> {
+    let offerer = if key.own { side } else { other(side) };
+    Ok(format!(in alloc; "{offerer}{}", key.id)?)
+}
+
+/// The count of bytes that were read, and the bytes.
+fn of_bytes(alloc: Global, bytes: &[u8]) -> Result<String, Fail> {
+    Ok(format!(in alloc; "{} {bytes:?}", bytes.len())?)
+}
+
+pub fn of_reply(alloc: Global, side: &str, reply: &Reply) -> Result<String, Fail> {
+    match reply {
+        Reply::Done => word(alloc, "ok"),
+        Reply::Made(key) => of_key(alloc, side, *key),
+        Reply::Bytes(bytes) => of_bytes(alloc, bytes.as_bytes()),
+        Reply::Number(n) => Ok(format!(in alloc; "{n}")?),
+        Reply::Known(outcome) => of_outcome(alloc, outcome),
+        Reply::NotYet => word(alloc, "not yet"),
+        Reply::Refused(refusal) => Ok(format!(in alloc; "{refusal:?}")?),
+        Reply::OutOfMemory => word(alloc, "OutOfMemory"),
+    }
+}
+
+fn of_cause(alloc: Global, cause: Cause) -> Result<String, Fail> {
+    match cause {
+        Cause::Refused(place, reason) => {
+            Ok(format!(in alloc; "refused {} at {}", reason.number(), place.0)?)
+        }
+        cause => Ok(format!(in alloc; "{cause:?}")?),
+    }
+}
+
+pub fn of_state(alloc: Global, state: EndState) -> Result<String, Fail> {
+    match state {
+        EndState::Ended(cause) => of_cause(alloc, cause),
+        state => Ok(format!(in alloc; "{state:?}")?),
+    }
+}
+
+/// The phase, and the bytes that are unread.
+pub fn of_view(alloc: Global, view: Option<ChannelView>) -> Result<String, Fail> {
+    match view {
+        Some(view) => Ok(format!(in alloc; "{:?} {}", view.phase, view.unread)?),
+        None => word(alloc, "none"),
+    }
+}
+
+/// The phase, and the bytes that were written and read.
+pub fn of_tally(alloc: Global, tally: Option<Tally>) -> Result<String, Fail> {
+    match tally {
+        Some(tally) => {
+            Ok(format!(in alloc; "{:?} {} {}", tally.phase, tally.written, tally.handed)?)
+        }
+        None => word(alloc, "none"),
+    }
+}
+
+fn of_id(alloc: Global, id: &Id) -> Result<String, Fail> {
+    match id {
+        Id::Number(n) => Ok(format!(in alloc; "{n}")?),
+        Id::Name(name) => Ok(format!(in alloc; "\"{}\"", name.as_str())?),
+    }
+}
+
+fn of_params(alloc: Global, params: &Params) -> Result<String, Fail> {
+    match params {
+        Params::Absent => word(alloc, "absent"),
+        Params::List(values) => Ok(format!(in alloc; "list {}", values.len())?),
+        Params::Named(pairs) => Ok(format!(in alloc; "named {}", pairs.len())?),
+    }
+}
+
+fn of_message(alloc: Global, event: &RpcEvent) -> Result<String, Fail> {
+    match event {
+        RpcEvent::Asked(id, _, method, params) => {
+            let (id, params) = (of_id(alloc, id)?, of_params(alloc, params)?);
+            Ok(format!(in alloc; "asked {id} {} {params}", method.as_str())?)
+        }
+        RpcEvent::Told(method, params) => {
+            let params = of_params(alloc, params)?;
+            Ok(format!(in alloc; "told {} {params}", method.as_str())?)
+        }
+        RpcEvent::Cancelled(id) => {
+            let id = of_id(alloc, id)?;
+            Ok(format!(in alloc; "cancelled {id}")?)
+        }
+        RpcEvent::Answered(n) => Ok(format!(in alloc; "answered {n}")?),
+        RpcEvent::Reported(n) => Ok(format!(in alloc; "reported {n}")?),
+        RpcEvent::Released(key) => Ok(format!(in alloc; "released {}", key.number)?),
+        RpcEvent::Handled(method) => Ok(format!(in alloc; "handled {}", method.as_str())?),
+        RpcEvent::Stray => word(alloc, "stray"),
+    }
+}
+
+fn of_count(
+    alloc: Global,
+    side: &str,
+    told: &str,
+    (key, count): (ChannelKey, u64),
+) -> Result<String, Fail> {
+    let key = of_key(alloc, side, key)?;
+    Ok(format!(in alloc; "{told} {key} {count}")?)
+}
+
+fn of_frame(alloc: Global, side: &str, event: &MuxEvent) -> Result<String, Fail> {
+    let (told, key) = match event {
+        MuxEvent::Ready => return word(alloc, "ready"),
+        MuxEvent::Content(key, count) => {
+            return of_count(alloc, side, "content", (*key, u64::from(*count)));
+        }
+        MuxEvent::Credit(key, count) => return of_count(alloc, side, "credit", (*key, *count)),
+        MuxEvent::Offered(key) => ("offered", key),
+        MuxEvent::Rejected(key) => ("rejected", key),
+        MuxEvent::Accepted(key) => ("accepted", key),
+        MuxEvent::Completed(key) => ("completed", key),
+        MuxEvent::Closed(key) => ("closed", key),
+        MuxEvent::Ignored(key) => ("ignored", key),
+    };
+    let key = of_key(alloc, side, *key)?;
+    Ok(format!(in alloc; "{told} {key}")?)
+}
+
+fn of_event(alloc: Global, side: &str, event: &EndEvent) -> Result<String, Fail> {
+    let (key, text) = match event {
+        EndEvent::Mux(event) => return of_frame(alloc, side, event),
+        EndEvent::Rpc(key, event) => (key, of_message(alloc, event)?),
+        EndEvent::RpcEnded(key, cause) => (key, of_cause(alloc, *cause)?),
+    };
+    let key = of_key(alloc, side, *key)?;
+    Ok(format!(in alloc; "{key} {text}")?)
+}
+
+pub fn of_step(alloc: Global, side: &str, step: &EndStep) -> Result<String, Fail> {
+    match step {
+        EndStep::Event(event) => of_event(alloc, side, event),
+        EndStep::Ended(cause) => of_cause(alloc, *cause),
+        step => Ok(format!(in alloc; "{step:?}")?),
+    }
+}
+
+fn of_value(alloc: Global, value: &Datum) -> Result<String, Fail> {
+    match &value.node {
+        Node::Whole(number) => Ok(format!(in alloc; "{}", number.get())?),
+        _ => word(alloc, "another value"),
+    }
+}
+
+fn of_outcome(alloc: Global, outcome: &Outcome) -> Result<String, Fail> {
+    match outcome {
+        Outcome::Replied(value) => of_value(alloc, value),
+        Outcome::Failed(code, text, _) => {
+            Ok(format!(in alloc; "failed {code} {}", text.as_str())?)
+        }
+        Outcome::Lost => word(alloc, "lost"),
+        Outcome::Starved => word(alloc, "starved"),
+    }
+}

@@ -1,0 +1,111 @@
+//! The values that words stand for.
+
+ghost use Rattle.rpc_end.specs.Built.{are_plain};
+ghost use Rattle.std.specs.Prelude.{◌≡◌, IfOk, true};
+
+use endpoint::{Arg, ArgList, Arguments};
+use std::alloc::Global;
+use std::test::Fail;
+use wire_base::{Blob, Datum, DatumList, Id, Node, PairList, Text, Whole};
+
+pub fn number(word: &str) -> i64 {
+    word.trim().parse::<i64>().unwrap_or(0)
+}
+
+fn whole(n: i64) -> Datum {
+    Datum {
+        node: Node::Whole(Whole::from_i64(n)),
+    }
+}
+
+/// A map that callers may not pass.
+fn reserved(alloc: Global) -> Result<Datum, Fail> {
+    let mut pairs = PairList::new(alloc);
+    pairs.push((Text::from_str(alloc, "__jsonrpc_marshaled")?, whole(1)))?;
+    Ok(Datum {
+        node: Node::Pairs(pairs),
+    })
+}
+
+fn bytes(alloc: Global) -> Result<Datum, Fail> {
+    Ok(Datum {
+        node: Node::Bytes(Blob::from_bytes(alloc, &[0])?),
+    })
+}
+
+/// So many arrays in one another.
+fn nested(alloc: Global, depth: u64) -> Result<Datum, Fail> {
+    let mut value = whole(2);
+    for _ in 0..depth {
+        let mut items = DatumList::new(alloc);
+        items.push(value)?;
+        value = Datum {
+            node: Node::Items(items),
+        };
+    }
+    Ok(value)
+}
+
+/// The value that a word stands for: a number, `deep` with how many arrays stand in one another, or one with a name.
+pub fn value(alloc: Global, word: &str) -> Result<Datum, Fail> {
+    match word {
+        "reserved" => reserved(alloc),
+        "bytes" => bytes(alloc),
+        word => match word.strip_prefix("deep") {
+            Some(depth) => nested(alloc, number(depth).unsigned_abs()),
+            None => Ok(whole(number(word))),
+        },
+    }
+}
+
+/// A number, or a name between quotes.
+pub fn id_of(alloc: Global, word: &str) -> Result<Id, Fail> {
+    match word.strip_prefix('"') {
+        Some(name) => Ok(Id::Name(Text::from_str(alloc, name.trim_end_matches('"'))?)),
+        None => Ok(Id::Number(number(word))),
+    }
+}
+
+/// An argument with a name.
+fn named(alloc: Global, name: &str, word: &str) -> Result<Arguments, Fail>
+    ensures { IfOk result (λ args. are_plain args ≡ true) }
+{
+    let mut pairs = PairList::new(alloc);
+    pairs.push((Text::from_str(alloc, name)?, value(alloc, word)?))?;
+    Ok(Arguments::Named(pairs))
+}
+
+/// Two arguments.
+fn listed(alloc: Global, first: &str, second: &str) -> Result<Arguments, Fail>
+    ensures { IfOk result (λ args. are_plain args ≡ true) }
+{
+    let mut args = ArgList::new(alloc);
+    args.push(Arg::Plain(value(alloc, first)?))?;
+    args.push(Arg::Plain(value(alloc, second)?))?;
+    Ok(Arguments::List(args))
+}
+
+/// The arguments that words stand for: none, `NAME=VALUE`, or two values.
+fn arguments(alloc: Global, words: &str) -> Result<Arguments, Fail>
+    ensures { IfOk result (λ args. are_plain args ≡ true) }
+{
+    if words.is_empty() {
+        return Ok(Arguments::Absent);
+    }
+    match words.split_once('=') {
+        Some((name, word)) => named(alloc, name, word),
+        None => {
+            let (first, second) = words.split_once(' ').unwrap_or((words, ""));
+            listed(alloc, first, second)
+        }
+    }
+}
+
+/// The method that the first word names, and the arguments that the others stand for.
+pub fn call_of(alloc: Global, words: &str) -> Result<(Text, Arguments), Fail>
+    ensures { IfOk result (λ call. are_plain call.1 ≡ true) }
+{
+    let (method, words) = words.split_once(' ').unwrap_or((words, ""));
+    let args = arguments(alloc, words)?;
+    Ok((Text::from_str(alloc, method)?, args))
+}

@@ -1,0 +1,193 @@
+//! Rows of text, and the end that lives through them.
+
+use crate::answers::{of_call, of_drawn, of_look, of_state, of_step, word};
+use crate::values::{call_of, id_of, number, value};
+use rpc_end::{Answer, Encoding, Expect, Framing, RpcEnd};
+use std::alloc::Global;
+use std::process::Abort;
+use std::test::Fail;
+use wire_base::{Cause, Text};
+
+pub fn start(alloc: Global, framing: Framing, encoding: Encoding) -> RpcEnd {
+    RpcEnd::new(alloc, framing, encoding)
+}
+
+/// The head of a body of so many bytes.
+fn head(alloc: Global, framing: Framing, count: usize) -> Result<Vec<u8>, Fail> {
+    match framing {
+        Framing::Header => {
+            Ok(format!(in alloc; "Content-Length: {count}\r\n\r\n")?.into_bytes())
+        }
+        Framing::Length => {
+            let count = u32::try_from(count).unwrap_or(0);
+            Ok(Vec::from_slice(alloc, &count.to_be_bytes())?)
+        }
+    }
+}
+
+fn framed_one(alloc: Global, framing: Framing, body: &str) -> Result<Vec<u8>, Fail> {
+    let mut bytes = head(alloc, framing, body.len())?;
+    bytes.extend_from_slice(body.as_bytes())?;
+    Ok(bytes)
+}
+
+/// The bodies between `+` signs, each behind its head.
+pub fn framed(alloc: Global, framing: Framing, bodies: &str) -> Result<Vec<u8>, Fail> {
+    let mut bytes = Vec::new(alloc);
+    for body in bodies.split('+') {
+        let body = body.trim();
+        if !body.is_empty() {
+            bytes.append(&mut framed_one(alloc, framing, body)?)?;
+        }
+    }
+    Ok(bytes)
+}
+
+fn asks(alloc: Global, end: &mut RpcEnd, words: &str) -> Result<String, Fail> {
+    let (method, args) = call_of(alloc, words)?;
+    of_drawn(alloc, end.request(&method, args, Expect::Plain))
+}
+
+fn tells(alloc: Global, end: &mut RpcEnd, words: &str) -> Result<String, Fail> {
+    let (method, args) = call_of(alloc, words)?;
+    of_call(alloc, end.notify(&method, args))
+}
+
+fn answers(alloc: Global, end: &mut RpcEnd, words: &str) -> Result<String, Fail> {
+    let (id, word) = words.split_once(' ').unwrap_or((words, ""));
+    let value = value(alloc, word)?;
+    of_call(alloc, end.respond(&id_of(alloc, id)?, Answer::Value(value)))
+}
+
+fn fails(alloc: Global, end: &mut RpcEnd, words: &str) -> Result<String, Fail> {
+    let (id, code) = words.split_once(' ').unwrap_or((words, ""));
+    let text = Text::from_str(alloc, "no")?;
+    let answer = Answer::Fault(number(code), text, None);
+    of_call(alloc, end.respond(&id_of(alloc, id)?, answer))
+}
+
+fn forgets(alloc: Global, end: &mut RpcEnd, n: u64) -> Result<String, Fail> {
+    of_call(alloc, end.forget(n))
+}
+
+pub fn feeds(alloc: Global, end: &mut RpcEnd, bytes: &[u8]) -> Result<String, Fail> {
+    match end.feed(bytes) {
+        Ok(state) => of_state(alloc, state),
+        Err(_) => word(alloc, "OutOfMemory"),
+    }
+}
+
+pub fn steps(alloc: Global, end: &mut RpcEnd) -> Result<String, Fail> {
+    of_step(alloc, &end.step())
+}
+
+/// Bytes come, and the end takes one step.
+pub fn comes(alloc: Global, end: &mut RpcEnd, bytes: &[u8]) -> Result<String, Fail> {
+    feeds(alloc, end, bytes)?;
+    steps(alloc, end)
+}
+
+fn ends(end: &mut RpcEnd) {
+    end.end(Cause::InputEnded);
+}
+
+fn stops(end: &mut RpcEnd) {
+    end.stop();
+}
+
+pub fn outcome(alloc: Global, end: &RpcEnd, n: u64) -> Result<String, Fail> {
+    of_look(alloc, end.outcome(n))
+}
+
+fn last(alloc: Global, end: &RpcEnd) -> Result<String, Fail> {
+    Ok(format!(in alloc; "{}", end.last_request())?)
+}
+
+fn has_message(alloc: Global, end: &RpcEnd) -> Result<String, Fail> {
+    Ok(format!(in alloc; "{:?}", end.has_message())?)
+}
+
+/// What is seen of the end.
+fn looks(alloc: Global, end: &RpcEnd, name: &str, words: &str) -> Result<String, Fail> {
+    match name {
+        "outcome" => outcome(alloc, end, number(words).unsigned_abs()),
+        "last" => last(alloc, end),
+        "has-message" => has_message(alloc, end),
+        "state" => of_state(alloc, end.state()),
+        _ => word(alloc, "no such call"),
+    }
+}
+
+/// What arrives at the end, or befalls it.
+fn befalls(alloc: Global, end: &mut RpcEnd, name: &str, words: &str) -> Result<String, Fail> {
+    let framing = end.terms.framing;
+    match name {
+        "feeds" => feeds(alloc, end, &framed(alloc, framing, words)?),
+        "comes" => comes(alloc, end, &framed(alloc, framing, words)?),
+        "steps" => steps(alloc, end),
+        "ends" => {
+            ends(end);
+            word(alloc, "ok")
+        }
+        "stops" => {
+            stops(end);
+            word(alloc, "ok")
+        }
+        _ => looks(alloc, end, name, words),
+    }
+}
+
+/// What this call answers.
+pub fn happens(alloc: Global, end: &mut RpcEnd, call: &str) -> Result<String, Fail> {
+    let (name, words) = call.split_once(' ').unwrap_or((call, ""));
+    let words = words.trim();
+    match name {
+        "asks" => asks(alloc, end, words),
+        "tells" => tells(alloc, end, words),
+        "answers" => answers(alloc, end, words),
+        "fails" => fails(alloc, end, words),
+        "forgets" => forgets(alloc, end, number(words).unsigned_abs()),
+        _ => befalls(alloc, end, name, words),
+    }
+}
+
+/// All output, which is then taken from the end.
+pub fn sent(alloc: Global, end: &mut RpcEnd) -> Result<Vec<u8>, Fail> {
+    let output = Vec::from_slice(alloc, end.pending_output())?;
+    end.took(output.len());
+    Ok(output)
+}
+
+pub fn is_told(rt: &impl Abort, told: &str, wanted: &str) {
+    assert_eq!(rt; told, wanted);
+}
+
+/// A row is a call, its answer, and the bodies that are sent then, between bars.
+fn lives_once(rt: &impl Abort, alloc: Global, end: &mut RpcEnd, row: &str) -> Result<(), Fail> {
+    let (call, wanted) = row.split_once('|').unwrap_or((row, ""));
+    let (wanted, bodies) = wanted.split_once('|').unwrap_or((wanted, ""));
+    let answer = happens(alloc, end, call.trim())?;
+    assert_eq!(rt; answer.as_str(), wanted.trim(), "at {row}");
+    let bodies = framed(alloc, end.terms.framing, bodies)?;
+    assert_eq!(rt; sent(alloc, end)?, bodies, "at {row}");
+    Ok(())
+}
+
+pub fn lives(rt: &impl Abort, alloc: Global, end: &mut RpcEnd, rows: &str) -> Result<(), Fail> {
+    for row in rows.lines() {
+        if !row.trim().is_empty() {
+            lives_once(rt, alloc, end, row)?;
+        }
+    }
+    Ok(())
+}
+
+/// An end that writes and reads JSON lives through the rows.
+pub fn a_life_in(rt: &impl Abort, alloc: Global, framing: Framing, rows: &str) -> Result<(), Fail> {
+    lives(rt, alloc, &mut start(alloc, framing, Encoding::Json), rows)
+}
+
+/// The heads of the bodies are four-byte lengths.
+pub fn a_life(rt: &impl Abort, alloc: Global, rows: &str) -> Result<(), Fail> {
+    a_life_in(rt, alloc, Framing::Length, rows)
+}
