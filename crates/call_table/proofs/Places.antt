@@ -5,8 +5,7 @@ use Rattle.std.proofs.lemmas.Bool.{cases_Bool, cases_lt, lt-ltb, lt-leb, eq-eqb,
 use Rattle.std.proofs.lemmas.Option.{slice_get_past}
 use Rattle.rpc_items.specs.Drawn.{with_number}
 use Rattle.call_table.specs.declared.entry.Entry.{Entry}
-use Rattle.call_table.specs.declared.entry.Kept.{Kept}
-use Rattle.call_table.specs.Table.{kept_at}
+use Rattle.call_table.specs.Table.{changed_at}
 
 -- one more at the end
 
@@ -33,24 +32,24 @@ three_ways (suc i) (suc n) = elim (three_ways i n) [
   ]
 ]
 
--- another thing kept of one
+-- one becomes another
 
-pub kept_at_same : (place : ℕ) (kept : Kept) (entries : List Entry) (entry : Entry) → slice_get entries place ≡ Some entry → slice_get (kept_at place kept entries) place ≡ Some (record entry { kept = kept })
-kept_at_same place kept [] entry e = absurd (cc e)
-kept_at_same zero kept (x ∷ xs) entry e = ap (λ (y : Entry). Some (record y { kept = kept })) (let same : x ≡ entry = cc e in same)
-kept_at_same (suc place) kept (x ∷ xs) entry e = kept_at_same place kept xs entry e
+pub changed_at_same : (place : ℕ) (change : Entry → Entry) (entries : List Entry) (entry : Entry) → slice_get entries place ≡ Some entry → slice_get (changed_at place change entries) place ≡ Some (change entry)
+changed_at_same place change [] entry e = absurd (cc e)
+changed_at_same zero change (x ∷ xs) entry e = ap (λ (y : Entry). Some (change y)) (let same : x ≡ entry = cc e in same)
+changed_at_same (suc place) change (x ∷ xs) entry e = changed_at_same place change xs entry e
 
-pub kept_at_other : (place other : ℕ) (kept : Kept) (entries : List Entry) → other ≢ place → slice_get (kept_at place kept entries) other ≡ slice_get entries other
-kept_at_other place other kept [] d = refl
-kept_at_other zero zero kept (x ∷ xs) d = absurd (d refl)
-kept_at_other zero (suc other) kept (x ∷ xs) d = refl
-kept_at_other (suc place) zero kept (x ∷ xs) d = refl
-kept_at_other (suc place) (suc other) kept (x ∷ xs) d = kept_at_other place other kept xs (λ e. d (ap suc e))
+pub changed_at_other : (place other : ℕ) (change : Entry → Entry) (entries : List Entry) → other ≢ place → slice_get (changed_at place change entries) other ≡ slice_get entries other
+changed_at_other place other change [] d = refl
+changed_at_other zero zero change (x ∷ xs) d = absurd (d refl)
+changed_at_other zero (suc other) change (x ∷ xs) d = refl
+changed_at_other (suc place) zero change (x ∷ xs) d = refl
+changed_at_other (suc place) (suc other) change (x ∷ xs) d = changed_at_other place other change xs (λ e. d (ap suc e))
 
-pub length-kept_at : (place : ℕ) (kept : Kept) (entries : List Entry) → length (kept_at place kept entries) ≡ length entries
-length-kept_at place kept [] = refl
-length-kept_at zero kept (x ∷ xs) = refl
-length-kept_at (suc place) kept (x ∷ xs) = ap suc (length-kept_at place kept xs)
+pub length-changed_at : (place : ℕ) (change : Entry → Entry) (entries : List Entry) → length (changed_at place change entries) ≡ length entries
+length-changed_at place change [] = refl
+length-changed_at zero change (x ∷ xs) = refl
+length-changed_at (suc place) change (x ∷ xs) = ap suc (length-changed_at place change xs)
 
 -- a number is that of one in the list where it isn't above the length
 

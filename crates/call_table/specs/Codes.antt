@@ -4,7 +4,7 @@ use Rattle.std.specs.Coded.{Coded, code_by, coded×, coded_ℕ, coded_ℤ, coded
 use Rattle.wire_base.specs.Tree.{Tree}
 use Rattle.wire_base.specs.Codes.{coded_tree}
 use Rattle.wire_base.specs.declared.text.Id.{Id}
-use Rattle.wire_base.specs.declared.text.Id.TheVariants.{Number, Name}
+use Rattle.rpc_items.specs.Codes.{coded_id}
 use Rattle.rpc_items.specs.declared.calls.Expect.{Expect}
 use Rattle.rpc_items.specs.declared.calls.Expect.TheVariants.{Plain, Sequence}
 use Rattle.rpc_items.specs.declared.calls.Outcome.{Outcome}
@@ -13,22 +13,6 @@ use Rattle.call_table.specs.declared.entry.Entry.{Entry}
 use Rattle.call_table.specs.declared.entry.Kept.{Kept}
 use Rattle.call_table.specs.declared.entry.Kept.TheVariants.{Waiting, Answered, Forgotten}
 use Rattle.call_table.specs.Table.{TableValue}
-
--- ids
-
-abbrev id_parts : Id → (Bool × ℤ) × List ℕ
-id_parts (Number z) = ((true, z), [])
-id_parts (Name s) = ((false, pos 0), s)
-
-abbrev id_back : (Bool × ℤ) × List ℕ → Id
-id_back p = if p.0.0 then Number p.0.1 else Name p.1
-
-pub id_again : (id : Id) → id_back (id_parts id) ≡ id
-id_again (Number z) = refl
-id_again (Name s) = refl
-
-abbrev coded_id : Coded Id
-coded_id = code_by ((Bool × ℤ) × List ℕ) (coded× (coded× coded_bool coded_ℤ) (coded_list coded_ℕ)) id_parts id_back id_again
 
 -- outcomes
 
@@ -94,8 +78,12 @@ expect_again Sequence = refl
 abbrev coded_expect : Coded Expect
 coded_expect = code_by Bool coded_bool is_plain expect_back expect_again
 
+-- what was asked for, and what became of it
 abbrev coded_entry : Coded Entry
-coded_entry = code_by ((Expect × Bool) × Kept) (coded× (coded× coded_expect coded_bool) coded_kept) (λ e. ((e.expect, e.progress), e.kept)) (λ p. record { expect = p.0.0; progress = p.0.1; kept = p.1 }) (λ _. refl)
+coded_entry = code_by ((Expect × Bool) × ((Kept × Bool) × List Tree)) (coded× (coded× coded_expect coded_bool) (coded× (coded× coded_kept coded_bool) (coded_list coded_tree)))
+    (λ e. ((e.expect, e.progress), ((e.kept, e.cancelled), e.reports)))
+    (λ p. record { expect = p.0.0; progress = p.0.1; kept = p.1.0.0; cancelled = p.1.0.1; reports = p.1.1 })
+    (λ _. refl)
 
 -- a table as its three parts
 abbrev pub coded_table : Coded TableValue

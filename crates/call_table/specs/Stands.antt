@@ -1,14 +1,19 @@
 -- When a table stands for a list of items.
 use Rattle.std.specs.Prelude.{◌≡◌, ℕ, ◌+◌, List, [], ◌∷◌, length, Bool, true, false, not, ◌&&◌, is_none, slice_get, option_map, if◌then◌else◌, Option, Some, None}
+use Rattle.wire_base.specs.Tree.{Tree}
 use Rattle.wire_base.specs.declared.text.Id.{Id}
 use Rattle.rpc_items.specs.declared.calls.Expect.{Expect}
 use Rattle.rpc_items.specs.declared.calls.Outcome.{Outcome}
 use Rattle.rpc_items.specs.declared.calls.Outcome.TheVariants.{Replied, Failed, Lost, Starved}
 use Rattle.rpc_items.specs.declared.messages.Message.{Message}
+use Rattle.rpc_items.specs.declared.messages.Message.TheVariants.{Request, Notification}
 use Rattle.rpc_items.specs.declared.messages.Message.TheVariants as message
+use Rattle.rpc_items.specs.declared.methods.Meaning.TheVariants.{Reports}
+use Rattle.rpc_items.specs.Meanings.{meaning}
 use Rattle.rpc_items.specs.Items.{RpcItem, Did, RpcCall, is_running}
-use Rattle.rpc_items.specs.Drawn.{Asked, asked, asked_by, asked_at, drawn, is_drawn, is_forgotten}
+use Rattle.rpc_items.specs.Drawn.{Asked, asked, asked_by, asked_at, drawn, is_drawn, is_forgotten, is_cancelled}
 use Rattle.rpc_items.specs.Outcomes.{answer_to, request_named}
+use Rattle.rpc_items.specs.Reports.{reports}
 use Rattle.rpc_items.specs.Waiting.{is_waiting}
 use Rattle.call_table.specs.declared.answers.Settled.{Settled}
 use Rattle.call_table.specs.declared.answers.Settled.TheVariants.{First, Stray}
@@ -30,13 +35,25 @@ kept_unless forgotten answer = if forgotten then Forgotten else kept_by answer
 abbrev pub kept_of : ℕ → List RpcItem → Kept
 kept_of n items = kept_unless (is_forgotten n items) (answer_to n items)
 
+-- the reports that are kept of a request, forgotten or not
+abbrev pub left_unless : (forgotten : Bool) → List Tree → List Tree
+left_unless forgotten left = if forgotten then [] else left
+
+-- the reports that are kept of request n
+abbrev pub left_of : ℕ → List RpcItem → List Tree
+left_of n items = left_unless (is_forgotten n items) (reports n items)
+
 -- a request with what is kept of it
-abbrev pub entry_as : Asked → Kept → Entry
-entry_as asked kept = record { expect = asked.expect; progress = asked.progress; kept = kept }
+abbrev pub entry_as : Asked → Kept → (cancelled : Bool) → (left : List Tree) → Entry
+entry_as asked kept cancelled left = record { expect = asked.expect; progress = asked.progress; kept = kept; cancelled = cancelled; reports = left }
+
+-- a request with what is kept of it as request n
+abbrev pub entry_after : ℕ → List RpcItem → Asked → Entry
+entry_after n items asked = entry_as asked (kept_of n items) (is_cancelled n items) (left_of n items)
 
 -- the request at a place, where request 1 stands at 0
 abbrev pub entry_at : (place : ℕ) → List RpcItem → Option Entry
-entry_at place items = option_map (λ asked. entry_as asked (kept_of (place + 1) items)) (slice_get (asked items) place)
+entry_at place items = option_map (entry_after (place + 1) items) (slice_get (asked items) place)
 
 -- what becomes of requests without a response, on a connection that runs or not, and stopped or not
 abbrev pub rest_by : (running stopped : Bool) → Option Outcome
@@ -53,6 +70,7 @@ pub record TableStands (stopped : Bool) (table : TableValue) (items : List RpcIt
   pub rest : table.rest ≡ rest_by (is_running items) stopped
   pub waiting : (id : Id) → waits_in id table ≡ is_waiting id items
   pub forgotten : (n : ℕ) → is_forgotten n items ≡ true → (is_drawn n items ≡ true) × (can_come (is_running items) (answer_to n items) ≡ false)
+  pub cancelled : (n : ℕ) → is_cancelled n items ≡ true → is_drawn n items ≡ true
 
 -- a request that was asked so
 abbrev pub asked_as : Expect → (progress : Bool) → (page_of : Option ℕ) → Asked
@@ -81,3 +99,9 @@ asked_of None items = None
 -- what a response with this id is after these items
 abbrev pub settling : Id → List RpcItem → Settled
 settling id items = settling_by (request_named id items) (asked_of (request_named id items) items)
+
+-- a message that reports this by this token, and is no request with the id of one that waits
+abbrev pub IsReport : Id → Tree → Message → List RpcItem → Type 0
+IsReport token value (Request id method params) items = (meaning method params ≡ Reports token value) × (is_waiting id items ≡ false)
+IsReport token value (Notification method params) items = meaning method params ≡ Reports token value
+IsReport token value message items = ⊥

@@ -1,6 +1,7 @@
 -- What a table keeps, and what its calls make of it.
-use Rattle.std.specs.Prelude.{ℕ, zero, suc, ◌-◌, pos, List, [], ◌∷◌, ◌++◌, Bool, true, false, not, ◌&&◌, filter, is_none, if◌then◌else◌, Option, Some, None}
+use Rattle.std.specs.Prelude.{ℕ, zero, suc, ◌-◌, pos, List, [], ◌∷◌, ◌++◌, Bool, true, false, not, ◌&&◌, drop, filter, is_none, if◌then◌else◌, Option, Some, None}
 use Rattle.std.specs.List.{list_any}
+use Rattle.wire_base.specs.Tree.{Tree}
 use Rattle.wire_base.specs.declared.text.Id.{Id}
 use Rattle.wire_base.specs.declared.text.Id.TheVariants.{Number}
 use Rattle.rpc_items.specs.declared.calls.Expect.{Expect}
@@ -78,19 +79,95 @@ shown (answers.Known outcome) = Known outcome.now
 shown answers.NotYet = NotYet
 shown answers.NoRequest = NoRequest
 
+-- a request that is begun
+abbrev pub new_entry : Expect → (progress : Bool) → Entry
+new_entry expect progress = record { expect = expect; progress = progress; kept = Waiting; cancelled = false; reports = [] }
+
 -- one more request
 abbrev pub begun : Expect → (progress : Bool) → TableValue → TableValue
-begun expect progress table = record table { requests = table.requests ++ ((record { expect = expect; progress = progress; kept = Waiting }) ∷ []) }
+begun expect progress table = record table { requests = table.requests ++ (new_entry expect progress ∷ []) }
 
--- the requests, where another thing is kept of the one at this place, from 0
-abbrev pub kept_at : ℕ → Kept → List Entry → List Entry
-kept_at place kept [] = []
-kept_at zero kept (entry ∷ entries) = record entry { kept = kept } ∷ entries
-kept_at (suc place) kept (entry ∷ entries) = entry ∷ kept_at place kept entries
+-- the requests, where the one at this place, from 0, becomes another
+abbrev pub changed_at : ℕ → (Entry → Entry) → List Entry → List Entry
+changed_at place change [] = []
+changed_at zero change (entry ∷ entries) = change entry ∷ entries
+changed_at (suc place) change (entry ∷ entries) = entry ∷ changed_at place change entries
+
+-- request n becomes another
+abbrev pub with_changed : ℕ → (Entry → Entry) → TableValue → TableValue
+with_changed n change table = record table { requests = changed_at (n - 1) change table.requests }
+
+-- another thing is kept of a request
+abbrev pub keeping : Kept → Entry → Entry
+keeping kept entry = record entry { kept = kept }
+
+-- nothing is kept of a request, nor of what was reported on it
+abbrev pub forgetting : Entry → Entry
+forgetting entry = record entry { kept = Forgotten; reports = [] }
+
+-- a request is cancelled
+abbrev pub cancelling : Entry → Entry
+cancelling entry = record entry { cancelled = true }
+
+-- one more report is kept of a request
+abbrev pub reporting : Tree → Entry → Entry
+reporting value entry = record entry { reports = entry.reports ++ (value ∷ []) }
+
+-- the oldest report is taken
+abbrev pub taking : Entry → Entry
+taking entry = record entry { reports = drop 1 entry.reports }
 
 -- another thing is kept of request n
 abbrev pub with_kept : ℕ → Kept → TableValue → TableValue
-with_kept n kept table = record table { requests = kept_at (n - 1) kept table.requests }
+with_kept n kept table = with_changed n (keeping kept) table
+
+-- request n is forgotten
+abbrev pub with_forgotten : ℕ → TableValue → TableValue
+with_forgotten n table = with_changed n forgetting table
+
+-- request n is cancelled
+abbrev pub with_cancelled : ℕ → TableValue → TableValue
+with_cancelled n table = with_changed n cancelling table
+
+-- a report on request n is kept
+abbrev pub with_report : ℕ → Tree → TableValue → TableValue
+with_report n value table = with_changed n (reporting value) table
+
+-- the oldest report on request n is taken
+abbrev pub with_taken : ℕ → TableValue → TableValue
+with_taken n table = with_changed n taking table
+
+-- whether there is a request, and it asked for reports of progress
+abbrev pub asked_progress : Option Entry → Bool
+asked_progress (Some entry) = entry.progress
+asked_progress None = false
+
+-- this request, where it asked for reports of progress
+abbrev pub if_reporting : ℕ → Option Entry → Option ℕ
+if_reporting n entry = if asked_progress entry then Some n else None
+
+-- the request that there may be, where it asked for reports of progress
+abbrev pub reporting_of : Option ℕ → TableValue → Option ℕ
+reporting_of (Some n) table = if_reporting n (with_number n table.requests)
+reporting_of None table = None
+
+-- the own request without a response for which a report with this token is kept
+abbrev pub reported_in : Id → TableValue → Option ℕ
+reported_in token table = reporting_of (named_in token table) table
+
+-- after a report that is kept for this request, or for none
+abbrev pub reported : Option ℕ → Tree → TableValue → TableValue
+reported (Some n) value table = with_report n value table
+reported None value table = table
+
+-- the reports that are kept of a request that there may be, oldest first
+abbrev pub left_at_entry : Option Entry → List Tree
+left_at_entry (Some entry) = entry.reports
+left_at_entry None = []
+
+-- the reports that are kept of request n
+abbrev pub left_in : ℕ → TableValue → List Tree
+left_in n table = left_at_entry (with_number n table.requests)
 
 -- after a response that is this
 abbrev pub settled : Settled → Outcome → TableValue → TableValue

@@ -1,5 +1,6 @@
 //! What is kept of one request.
 
+use crate::reports::Reports;
 use rpc_items::{Expect, Outcome};
 
 /// How far a request is.
@@ -20,4 +21,7 @@ pub struct Entry {
     /// Whether it asked for reports of progress.
     pub progress: bool,
     pub kept: Kept,
+    /// Whether it was cancelled here.
+    pub cancelled: bool,
+    pub reports: Reports,
 }

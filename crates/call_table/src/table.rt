@@ -1,12 +1,12 @@
 //! The table and its calls.
 
-ghost use Rattle.std.specs.Prelude.{◌≡◌, ◌<◌, ◌≤◌, ◌+◌, ◌∷◌, [], filter, false, length, not, true, Bool, List, ℕ, Some, OnErr, OnOk};
+ghost use Rattle.std.specs.Prelude.{◌≡◌, ◌<◌, ◌≤◌, ◌+◌, ◌∷◌, [], filter, false, length, not, slice_get, true, Bool, List, ℕ, Some, OnErr, OnOk};
 ghost use Rattle.std.specs.List.{list_any};
 ghost use Rattle.std.specs.Option.{option_copied};
 ghost use Rattle.rpc_items.specs.Drawn.{drawn, with_number};
 ghost use Rattle.rpc_items.specs.Ids.{same_id};
 ghost use Rattle.rpc_items.specs.declared.calls.Outcome.TheVariants as outcomes;
-ghost use Rattle.rpc_items.specs.Items.{RpcItem, Did, End, Forget, Got, Respond};
+ghost use Rattle.rpc_items.specs.Items.{RpcItem, Cancel, Did, End, Forget, Got, Respond, TakeReport};
 ghost use Rattle.rpc_items.specs.Meanings.{meaning};
 ghost use Rattle.rpc_items.specs.Waiting.{asks, is_waiting};
 ghost use Rattle.rpc_items.specs.declared.calls.Answer.{Answer};
@@ -16,17 +16,17 @@ ghost use Rattle.rpc_items.specs.declared.messages.Params.{Params};
 ghost use Rattle.wire_base.specs.declared.state.Cause.{Cause};
 ghost use Rattle.rpc_items.specs.Outcomes.{is_known, outcome};
 ghost use Rattle.call_table.specs.declared.answers.Heard.TheVariants as answers;
-ghost use Rattle.call_table.specs.declared.entry.Kept.TheVariants as kepts;
-ghost use Rattle.call_table.specs.Replies.{Does, Draws, Hears, full_refusal, unless_there};
-ghost use Rattle.call_table.specs.Stands.{TableStands, StandsDrawn, response_of, settling};
-ghost use Rattle.call_table.specs.Table.{answered, begun, empty, heard, look_in, named_in, over, settled, settled_in, shown, waits_in, with_kept};
+ghost use Rattle.call_table.specs.Replies.{Checks, Does, Draws, Hears, KeepsReport, Takes, cancel_refusal, full_refusal, take_refusal, unless_there};
+ghost use Rattle.call_table.specs.Stands.{IsReport, TableStands, StandsDrawn, response_of, settling};
+ghost use Rattle.call_table.specs.Table.{answered, begun, empty, heard, left_in, look_in, named_in, over, reported_in, settled, settled_in, shown, waits_in, with_cancelled, with_forgotten, with_kept, with_report, with_taken};
 
 use crate::answers::{Heard, Look, Settled};
 use crate::entry::{Entry, Kept};
+use crate::reports::Reports;
 use rpc_items::{Expect, Outcome};
 use std::alloc::Global;
 use std::marker::Model;
-use wire_base::{CallFault, Id, OutOfMemory, Refusal};
+use wire_base::{CallFault, Datum, Id, OutOfMemory, Refusal};
 
 /// The most requests that are drawn.
 const MOST_REQUESTS: usize = 4_294_967_295;
@@ -34,6 +34,7 @@ const MOST_REQUESTS: usize = 4_294_967_295;
 /// The requests of one connection.
 #[derive(Drop)]
 pub struct CallTable {
+    alloc: Global,
     /// Own requests: request 1 first.
     requests: Vec<Entry>,
     /// What becomes of those that have no response, once none can come.
@@ -86,6 +87,7 @@ impl CallTable {
         ensures stands { TableStands false result [] }
     {
         CallTable {
+            alloc,
             requests: Vec::new(alloc),
             rest: None,
             waiting: Vec::new(alloc),
@@ -136,6 +138,48 @@ impl CallTable {
         self.requests[n as usize - 1].kept = kept;
     }
 
+    /// Keeps nothing of a request, nor of what was reported on it.
+    fn clear(&mut self, n: u64)
+        requires above { 0 < n }
+        requires drawn { n ≤ length self.old.requests }
+        ensures { self.new ≡ with_forgotten n self.old }
+    {
+        let reports = Reports::new(self.alloc);
+        let entry = &mut self.requests[n as usize - 1];
+        entry.kept = Kept::Forgotten;
+        entry.reports = reports;
+    }
+
+    /// Notes that a request was cancelled here.
+    fn mark_cancelled(&mut self, n: u64)
+        requires above { 0 < n }
+        requires drawn { n ≤ length self.old.requests }
+        ensures { self.new ≡ with_cancelled n self.old }
+    {
+        self.requests[n as usize - 1].cancelled = true;
+    }
+
+    /// Keeps one more report on a request.
+    fn push_report(&mut self, n: u64, value: Datum) -> Result<(), OutOfMemory>
+        requires above { 0 < n }
+        requires drawn { n ≤ length self.old.requests }
+        ensures ok { OnOk result (self.new ≡ with_report n value self.old) }
+        ensures err { OnErr result (self.new ≡ self.old) }
+    {
+        self.requests[n as usize - 1].reports.push(value)?;
+        Ok(())
+    }
+
+    /// Hands over the oldest report on a request, where one is left.
+    fn next_report(&mut self, n: u64) -> Option<Datum>
+        requires above { 0 < n }
+        requires drawn { n ≤ length self.old.requests }
+        ensures answer { result ≡ slice_get (left_in n self.old) 0 }
+        ensures value { self.new ≡ with_taken n self.old }
+    {
+        self.requests[n as usize - 1].reports.take()
+    }
+
     /// What a response with this id would be to the requests.
     pub fn foresee(&self, id: &Id) -> Settled
         ensures value { result ≡ settled_in id.now self.now }
@@ -168,6 +212,49 @@ impl CallTable {
         }
     }
 
+    /// The request without a response for which a report with this token is kept.
+    fn reported(&self, token: &Id) -> Option<u64>
+        ensures { result ≡ reported_in token.now self.now }
+    {
+        match self.named(token) {
+            Some(n) => match self.find(n) {
+                Some(entry) if entry.progress => Some(n),
+                _ => None,
+            },
+            None => None,
+        }
+    }
+
+    /// Whether a request can be cancelled: it can get a response, and wasn't cancelled here. It takes no memory.
+    pub fn check_cancel(&self, n: u64) -> Result<(), Refusal>
+        ensures { Checks (cancel_refusal n self.now) result }
+    {
+        match (&self.rest, self.find(n)) {
+            (None, Some(entry)) if matches!(entry.kept, Kept::Waiting) => {
+                if entry.cancelled {
+                    Err(Refusal::AlreadyCancelled)
+                } else {
+                    Ok(())
+                }
+            }
+            _ => Err(Refusal::NoRequest),
+        }
+    }
+
+    /// Refuses a request that there isn't or that was forgotten, and one that asked for no reports.
+    fn check_reports(&self, n: u64) -> Result<(), Refusal>
+        ensures { Checks (take_refusal n self.now) result }
+    {
+        match self.find(n) {
+            Some(entry) => match entry.kept {
+                Kept::Forgotten => Err(Refusal::NoRequest),
+                _ if entry.progress => Ok(()),
+                _ => Err(Refusal::NoToken),
+            },
+            None => Err(Refusal::NoRequest),
+        }
+    }
+
     /// Whether the peer's request of this id waits.
     pub fn waits(&self, id: &Id) -> bool
         ensures value { result ≡ waits_in id.now self.now }
@@ -185,6 +272,8 @@ impl CallTable {
             expect,
             progress,
             kept: Kept::Waiting,
+            cancelled: false,
+            reports: Reports::new(self.alloc),
         })?;
         Ok(())
     }
@@ -215,6 +304,41 @@ impl CallTable {
             self.keep(n, Kept::Answered(outcome));
         }
         settled
+    }
+
+    /// Notes that a request without a response is cancelled. It takes no memory.
+    pub fn cancel(&mut self, n: u64) -> Result<(), Refusal>
+        ensures value { Does (cancel_refusal n self.old) self.old self.new (with_cancelled n self.old) result }
+        ensures stands { (items : List RpcItem) → TableStands false self.old items → OnOk result (TableStands false self.new (Did (Cancel n) ∷ items)) }
+    {
+        self.check_cancel(n)?;
+        self.mark_cancelled(n);
+        Ok(())
+    }
+
+    /// Keeps a report for the request that its token names, where that has no response and asked for reports, and answers
+    /// whether it was kept.
+    pub fn report(&mut self, token: &Id, value: Datum) -> Result<bool, OutOfMemory>
+        ensures value { KeepsReport (reported_in token.now self.old) value self.old self.new result }
+        ensures stands { (items : List RpcItem) (place : ℕ) (message : Message) → TableStands false self.old items → IsReport token.now value message items →
+            OnOk result (TableStands false self.new (Got place message ∷ items)) }
+    {
+        match self.reported(token) {
+            Some(n) => {
+                self.push_report(n, value)?;
+                Ok(true)
+            }
+            None => Ok(false),
+        }
+    }
+
+    /// Hands over the oldest report on a request that asked for reports, where one is left. It takes no memory.
+    pub fn take_report(&mut self, n: u64) -> Result<Option<Datum>, Refusal>
+        ensures value { Takes (take_refusal n self.old) n self.old self.new result }
+        ensures stands { (items : List RpcItem) → TableStands false self.old items → OnOk result (TableStands false self.new (Did (TakeReport n) ∷ items)) }
+    {
+        self.check_reports(n)?;
+        Ok(self.next_report(n))
     }
 
     /// Adds the id of a request of the peer.
@@ -254,14 +378,14 @@ impl CallTable {
         Ok(())
     }
 
-    /// Keeps a known outcome no longer. It takes no memory.
+    /// Keeps a known outcome no longer, nor reports on its request. It takes no memory.
     pub fn forget(&mut self, n: u64) -> Result<(), Refusal>
-        ensures value { Does (unless_there (is_known (look_in n self.old))) self.old self.new (with_kept n kepts.Forgotten self.old) result }
+        ensures value { Does (unless_there (is_known (look_in n self.old))) self.old self.new (with_forgotten n self.old) result }
         ensures stands { (items : List RpcItem) → TableStands false self.old items → OnOk result (TableStands false self.new (Did (Forget n) ∷ items)) }
     {
         match self.outcome(n) {
             Look::Known(_) => {
-                self.keep(n, Kept::Forgotten);
+                self.clear(n);
                 Ok(())
             }
             Look::NotYet | Look::NoRequest => Err(Refusal::NoRequest),

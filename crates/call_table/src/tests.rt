@@ -2,21 +2,31 @@
 
 use crate::{CallTable, Expect, Heard, Look, Outcome, Settled};
 use std::test::Fail;
-use wire_base::{Datum, Id, Node, Text, Whole};
+use wire_base::{Datum, Id, Node, OutOfMemory, Refusal, Text, Whole};
+
+fn whole(n: i64) -> Datum {
+    Datum {
+        node: Node::Whole(Whole::from_i64(n)),
+    }
+}
 
 fn number(n: i64) -> Outcome {
-    Outcome::Replied(Datum {
-        node: Node::Whole(Whole::from_i64(n)),
-    })
+    Outcome::Replied(whole(n))
+}
+
+/// The number that a value is, 5 or 7, or else a word.
+fn digit(value: &Datum) -> &'static str {
+    match &value.node {
+        Node::Whole(n) if n.get() == 5 => "5",
+        Node::Whole(n) if n.get() == 7 => "7",
+        _ => "another value",
+    }
 }
 
 /// What is told of a request: the number that it was answered, or else a word.
 fn told(table: &CallTable, n: u64) -> &'static str {
     match table.outcome(n) {
-        Look::Known(Outcome::Replied(value)) => match &value.node {
-            Node::Whole(n) if n.get() == 5 => "5",
-            _ => "another value",
-        },
+        Look::Known(Outcome::Replied(value)) => digit(value),
         Look::Known(Outcome::Failed(_, _, _)) => "failed",
         Look::Known(Outcome::Lost) => "lost",
         Look::Known(Outcome::Starved) => "starved",
@@ -32,6 +42,21 @@ fn begins(table: &mut CallTable, number: u64) -> bool {
 fn settles(table: &mut CallTable, id: &Id, n: i64, want: Settled) -> bool {
     let foreseen = table.foresee(id);
     table.settle(id, number(n)) == want && foreseen == want
+}
+
+fn reports(table: &mut CallTable, token: i64, n: i64) -> Result<bool, OutOfMemory> {
+    table.report(&Id::Number(token), whole(n))
+}
+
+/// What is taken of the reports on a request: the number that was reported, or else a word.
+fn taken(table: &mut CallTable, n: u64) -> &'static str {
+    match table.take_report(n) {
+        Ok(Some(value)) => digit(&value),
+        Ok(None) => "none",
+        Err(Refusal::NoRequest) => "no request",
+        Err(Refusal::NoToken) => "no token",
+        Err(_) => "another refusal",
+    }
 }
 
 fn hears(table: &mut CallTable, id: Id) -> &'static str {
@@ -115,5 +140,53 @@ fn requests_of_the_peer_wait_for_their_answer(rt: HostRuntime) -> Result<(), Fai
     );
     assert!(rt; answers(&mut table, &first) && !answers(&mut table, &first));
     assert_eq!(rt; hears(&mut table, Id::Number(1)), "new");
+    Ok(())
+}
+
+#[test]
+fn a_request_is_cancelled_once(rt: HostRuntime) -> Result<(), Fail> {
+    let mut table = CallTable::new(rt.alloc());
+    assert!(rt; begins(&mut table, 1) && begins(&mut table, 2));
+    assert_eq!(rt; table.cancel(1), Ok(()));
+    assert_eq!(rt; table.cancel(1), Err(Refusal::AlreadyCancelled));
+    assert_eq!(rt; told(&table, 1), "not yet");
+    assert!(rt;
+        settles(
+            &mut table,
+            &Id::Number(1),
+            5,
+            Settled::First(1, Expect::Plain)
+        )
+    );
+    assert_eq!(rt; table.cancel(1), Err(Refusal::NoRequest));
+    table.lose_all();
+    assert_eq!(rt; table.cancel(2), Err(Refusal::NoRequest));
+    assert_eq!(rt; table.cancel(3), Err(Refusal::NoRequest));
+    Ok(())
+}
+
+/// Reports are kept until they are taken, or their request is forgotten, and none is after the answer.
+#[test]
+fn reports_are_taken_in_their_order(rt: HostRuntime) -> Result<(), Fail> {
+    let mut table = CallTable::new(rt.alloc());
+    assert!(rt; table.begin(Expect::Plain, true) == Ok(1) && begins(&mut table, 2));
+    assert!(rt; reports(&mut table, 1, 5)? && reports(&mut table, 1, 7)?);
+    assert!(rt; !reports(&mut table, 2, 5)? && !reports(&mut table, 3, 5)?);
+    assert_eq!(rt; taken(&mut table, 1), "5");
+    assert_eq!(rt; taken(&mut table, 2), "no token");
+    assert_eq!(rt; taken(&mut table, 3), "no request");
+    assert!(rt;
+        settles(
+            &mut table,
+            &Id::Number(1),
+            5,
+            Settled::First(1, Expect::Plain)
+        )
+    );
+    assert!(rt; !reports(&mut table, 1, 5)?);
+    assert_eq!(rt; taken(&mut table, 1), "7");
+    assert_eq!(rt; taken(&mut table, 1), "none");
+    assert!(rt; forgets(&mut table, 1));
+    assert_eq!(rt; taken(&mut table, 1), "no request");
     Ok(())
 }

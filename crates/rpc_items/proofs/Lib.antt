@@ -5,6 +5,7 @@ pub mod Paging
 pub mod Drawing
 pub mod Fitting
 pub mod Settling
+pub mod Reported
 mod Worked
 mod WorkedExtensions
 mod WorkedMessages

@@ -1,6 +1,6 @@
 //! Laws of one connection's items.
 
-ghost use Rattle.std.specs.Prelude.{◌≡◌, ◌++◌, ◌∷◌, ◌<◌, ◌≤◌, ℕ, Bool, List, Some, Ok, [], codes, true, false};
+ghost use Rattle.std.specs.Prelude.{◌≡◌, ◌≢◌, ◌++◌, ◌∷◌, ◌<◌, ◌≤◌, ◌&&◌, ℕ, Bool, List, Some, Ok, [], codes, drop, true, false};
 ghost use Rattle.wire_base.specs.Tree.{Tree, flag};
 ghost use Rattle.wire_base.specs.declared.text.Id.{Id};
 ghost use Rattle.rpc_items.specs.declared.messages.Params.{Params};
@@ -13,9 +13,10 @@ ghost use Rattle.rpc_items.specs.Methods.{cancel_request, progress, next_page, a
 ghost use Rattle.rpc_items.specs.declared.methods.Meaning.{Meaning};
 ghost use Rattle.rpc_items.specs.declared.methods.Meaning.TheVariants.{Cancels, Reports, Turns, Aborts, Releases, Calls};
 ghost use Rattle.rpc_items.specs.Meanings.{meaning};
-ghost use Rattle.rpc_items.specs.Items.{RpcCall, RpcItem};
+ghost use Rattle.rpc_items.specs.Items.{Did, Got, RpcCall, RpcItem, TakeReport};
 ghost use Rattle.rpc_items.specs.Produced.{produced_at};
-ghost use Rattle.rpc_items.specs.Outcomes.{outcome};
+ghost use Rattle.rpc_items.specs.Outcomes.{is_unanswered, outcome};
+ghost use Rattle.rpc_items.specs.Reports.{has_progress, report_in, reports};
 ghost use Rattle.rpc_items.specs.Producing.{answered_values, page_count, is_producing};
 ghost use Rattle.rpc_items.specs.Automatic.{automatic};
 ghost use Rattle.rpc_items.specs.Events.{event_of};
@@ -50,6 +51,16 @@ pub fn handles_rest_after_their_end()
 /// Each request that came is answered once at most.
 pub fn requests_are_answered_once()
     ensures { (k : Encoder) (items : List RpcItem) → AreAllowed k items → AnswersOnce items }
+{}
+
+/// A report is kept behind the earlier ones while its request is unanswered and asked for progress, and else not at all.
+/// One that is taken is the oldest of its request, and those of other requests stay.
+pub fn reports_come_in_order()
+    ensures kept { (n place : ℕ) (message : Message) (value : Tree) (items : List RpcItem) → is_unanswered n items ≡ true → has_progress n items ≡ true → report_in n message ≡ value ∷ [] →
+        reports n (Got place message ∷ items) ≡ reports n items ++ value ∷ [] }
+    ensures unkept { (n place : ℕ) (message : Message) (items : List RpcItem) → (is_unanswered n items && has_progress n items) ≡ false → reports n (Got place message ∷ items) ≡ reports n items }
+    ensures taken { (n : ℕ) (items : List RpcItem) → reports n (Did (TakeReport n) ∷ items) ≡ drop 1 (reports n items) }
+    ensures others { (n m : ℕ) (items : List RpcItem) → m ≢ n → reports m (Did (TakeReport n) ∷ items) ≡ reports m items }
 {}
 
 /// What was answered for a sequence so far is a front of its values.
