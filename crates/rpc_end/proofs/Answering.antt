@@ -1,15 +1,14 @@
 -- What an end answers to calls.
-use Rattle.std.specs.Prelude.{ℕ, List, [], ◌∷◌, ◌+◌, length, Bool, true, false, nat_le, if◌then◌else◌, Option, Some, None, Result, Ok, Err, OnOk}
+use Rattle.std.specs.Prelude.{ℕ, List, [], ◌∷◌, ◌+◌, length, Bool, true, false, nat_le, slice_get, if◌then◌else◌, Option, Some, None, Result, Ok, Err, OnOk}
 use Rattle.std.specs.List.{list_all, list_any}
 use Rattle.std.proofs.Common.{◌≡◌, refl, sym, ◌∙◌, ap, subst}
-use Rattle.std.proofs.lemmas.Bool.{and_parts}
 use Rattle.std.proofs.lemmas.List.{append-nil}
-use Rattle.call_table.specs.Replies.{Does, full_refusal, unless_there}
+use Rattle.call_table.specs.Replies.{Does, Takes, full_refusal, take_refusal, unless_there}
 use Rattle.call_table.specs.Stands.{StandsDrawn, TableStands, asked_as}
-use Rattle.call_table.specs.Table.{TableValue, look_in, with_kept}
-use Rattle.call_table.specs.declared.entry.Kept.TheVariants.{Forgotten}
-use Rattle.call_table.proofs.Passing.{tell_leaves}
-use Rattle.call_table.proofs.Reading.{looks}
+use Rattle.call_table.specs.Table.{TableValue, left_in, look_in, waits_in, with_forgotten}
+use Rattle.call_table.proofs.Passing.{report_leaves, tell_leaves}
+use Rattle.call_table.proofs.Reading.{lefts, looks, takes_as}
+use Rattle.message_body.specs.AsRead.{AreMessages}
 use Rattle.message_body.specs.Replies.{Writes}
 use Rattle.message_body.specs.Written.{encoder}
 use Rattle.rpc_items.specs.declared.calls.Answer.{Answer}
@@ -20,15 +19,19 @@ use Rattle.rpc_items.specs.declared.calls.Arguments.{Arguments}
 use Rattle.rpc_items.specs.declared.calls.Expect.{Expect}
 use Rattle.rpc_items.specs.declared.messages.Message.{Message}
 use Rattle.rpc_items.specs.declared.messages.Message.TheVariants.{Request, Notification}
-use Rattle.rpc_items.specs.Arguments.{args_refusal, handed, most_drawn, needs_request}
+use Rattle.rpc_items.specs.Arguments.{args_refusal, handed, most_drawn}
 use Rattle.rpc_items.specs.Bodies.{Encoder, first_refusal, or_else}
 use Rattle.rpc_items.specs.Drawn.{arg_list, drawn, has_progress_arg}
 use Rattle.rpc_items.specs.Ids.{numbered_id}
-use Rattle.rpc_items.specs.Items.{RpcCall, Ask, Tell, Respond, Invoke, Forget, RpcItem, Did, Got, End, ended}
-use Rattle.rpc_items.specs.Made.{last_handle, made, made_in, made_by}
+use Rattle.rpc_items.specs.Items.{RpcCall, Ask, Tell, Respond, Report, TakeReport, Forget, RpcItem, Did, ended}
+use Rattle.rpc_items.specs.Made.{last_handle, made, made_in}
 use Rattle.rpc_items.specs.Outcomes.{is_known, outcome}
+use Rattle.rpc_items.specs.Reports.{reports}
 use Rattle.rpc_items.specs.Refusals.{answer_refusal, call_refusal, is_of_the_past, reserved_refusal, said_refusal, state_refusal, unless_ended}
-use Rattle.rpc_items.specs.Saying.{asks_next, params_of, response, said}
+use Rattle.rpc_items.specs.Fitting.{IsNamed}
+use Rattle.rpc_items.specs.Waiting.{is_waiting}
+use Rattle.rpc_items.specs.Saying.{all_said, arg_values, asks_next, params_of, response, said}
+use Rattle.wire_base.specs.Tree.{Tree}
 use Rattle.wire_base.specs.declared.fault.CallFault.{CallFault}
 use Rattle.wire_base.specs.declared.fault.CallFault.TheVariants as fault
 use Rattle.wire_base.specs.declared.refusal.Refusal.{Refusal}
@@ -37,71 +40,43 @@ use Rattle.wire_base.specs.declared.state.Cause.{Cause}
 use Rattle.wire_base.specs.declared.state.EndState.{EndState}
 use Rattle.wire_base.specs.declared.state.EndState.TheVariants as state
 use Rattle.wire_base.specs.declared.text.Id.{Id}
-use Rattle.rpc_end.specs.Built.{are_built, are_plain, is_built, is_built_item, is_plain_answer, is_plain_arg}
-use Rattle.rpc_end.specs.Calls.{Calls, Prepares, finished, member_refusal, plain_refusal, reply_refusal, running_refusal}
+use Rattle.rpc_end.specs.Built.{are_built, are_built_args, arg_value, is_built, is_built_arg, is_plain_answer, is_progress}
+use Rattle.rpc_end.specs.Calls.{Calls, Prepares, finished, member_refusal, needs_refusal, plain_refusal, reply_refusal, running_refusal, told_refusal}
 use Rattle.rpc_end.specs.Ends.{Makes, with_said, with_table}
 use Rattle.rpc_end.specs.Replies.{Adds, Answers, CallAnswers, early_refusal}
 use Rattle.rpc_end.specs.Stands.{RpcStands, RpcValue, state_by}
+use Rattle.rpc_end.proofs.Plain.{made_none, makes_none}
+use Rattle.rpc_end.proofs.Said.{both_messages, waits_still}
 
--- arguments that are all values ask for no progress, hand over no handle and offer no object
-pub plain_progress : (args : List Arg) → list_all is_plain_arg args ≡ true → has_progress_arg args ≡ false
-plain_progress [] p = refl
-plain_progress (arg.Plain value ∷ args) p = plain_progress args p
-plain_progress (arg.Progress ∷ args) p = absurd cc
-plain_progress (arg.Object object lifetime ∷ args) p = absurd cc
-plain_progress (arg.Handed handle ∷ args) p = absurd cc
+-- whether arguments ask for progress, one by one
+pub asks_progress : (args : List Arg) → list_any is_progress args ≡ has_progress_arg args
+asks_progress [] = refl
+asks_progress (arg.Plain value ∷ args) = asks_progress args
+asks_progress (arg.Progress ∷ args) = refl
+asks_progress (arg.Object object lifetime ∷ args) = asks_progress args
+asks_progress (arg.Handed handle ∷ args) = asks_progress args
 
-pub plain_needs : (args : List Arg) → list_all is_plain_arg args ≡ true → list_any needs_request args ≡ false
-plain_needs [] p = refl
-plain_needs (arg.Plain value ∷ args) p = plain_needs args p
-plain_needs (arg.Progress ∷ args) p = absurd cc
-plain_needs (arg.Object object lifetime ∷ args) p = absurd cc
-plain_needs (arg.Handed handle ∷ args) p = absurd cc
+-- an argument as it is said
+pub built_values : (n handles : ℕ) (a : Arg) (args : List Arg) → is_built_arg a ≡ true → arg_values n handles (a ∷ args) ≡ arg_value n a ∷ arg_values n handles args
+built_values n handles (arg.Plain value) args p = refl
+built_values n handles arg.Progress args p = refl
+built_values n handles (arg.Object object lifetime) args p = absurd cc
+built_values n handles (arg.Handed handle) args p = absurd cc
 
-plain_handed : (args : List Arg) → list_all is_plain_arg args ≡ true → handed args ≡ []
-plain_handed [] p = refl
-plain_handed (arg.Plain value ∷ args) p = plain_handed args p
-plain_handed (arg.Progress ∷ args) p = absurd cc
-plain_handed (arg.Object object lifetime ∷ args) p = absurd cc
-plain_handed (arg.Handed handle ∷ args) p = absurd cc
+-- arguments that are all values or progress hand over no handle
+built_handed : (args : List Arg) → list_all is_built_arg args ≡ true → handed args ≡ []
+built_handed [] p = refl
+built_handed (arg.Plain value ∷ args) p = built_handed args p
+built_handed (arg.Progress ∷ args) p = built_handed args p
+built_handed (arg.Object object lifetime ∷ args) p = absurd cc
+built_handed (arg.Handed handle ∷ args) p = absurd cc
 
-plain_made : (request : Option ℕ) (args : List Arg) → list_all is_plain_arg args ≡ true → made_in request args ≡ []
-plain_made request [] p = refl
-plain_made request (arg.Plain value ∷ args) p = plain_made request args p
-plain_made request (arg.Progress ∷ args) p = absurd cc
-plain_made request (arg.Object object lifetime ∷ args) p = absurd cc
-plain_made request (arg.Handed handle ∷ args) p = absurd cc
-
--- no built item offers an object
-call_makes : (n : ℕ) (call : RpcCall) → is_built call ≡ true → made_by n (Did call) ≡ []
-call_makes n (Ask method args expect) b = plain_made (Some n) (arg_list args) (and_parts _ _ b).0
-call_makes n (Tell method args) b = plain_made None (arg_list args) b
-call_makes n (Respond id (answer.Value value)) b = refl
-call_makes n (Respond id (answer.Object object)) b = absurd cc
-call_makes n (Respond id (answer.Sequence values page first)) b = refl
-call_makes n (Respond id (answer.Fault code text more)) b = refl
-call_makes n (Invoke handle method args expect) b = absurd cc
-call_makes n call b = refl
-
-item_makes : (n : ℕ) (item : RpcItem) → is_built_item item ≡ true → made_by n item ≡ []
-item_makes n (Did call) b = call_makes n call b
-item_makes n (Got place message) b = refl
-item_makes n (End cause) b = refl
-
-pub none_made : (items : List RpcItem) → are_built items ≡ true → made items ≡ []
-none_made [] b = refl
-none_made (item ∷ items) b =
-    let both = and_parts _ _ b in
-    let older : made items ≡ [] = none_made items both.1 in
-    let newest = item_makes _ item both.0 in
-    rw older newest
-
--- plain arguments are refused for their members alone
-pub plain_args : (args : Arguments) (items : List RpcItem) → are_plain args ≡ true → are_built items ≡ true → args_refusal args items ≡ member_refusal args
+-- such arguments are refused for their members alone
+pub plain_args : (args : Arguments) (items : List RpcItem) → are_built_args args ≡ true → are_built items ≡ true → args_refusal args items ≡ member_refusal args
 plain_args args items p b =
-    let none : made items ≡ [] = none_made items b in
-    let hands : handed (arg_list args) ≡ [] = plain_handed (arg_list args) p in
-    let offers : made_in None (arg_list args) ≡ [] = plain_made None (arg_list args) p in
+    let none : made items ≡ [] = made_none items b in
+    let hands : handed (arg_list args) ≡ [] = built_handed (arg_list args) p in
+    let offers : made_in None (arg_list args) ≡ [] = makes_none None (arg_list args) p in
     simp (none, hands, offers)
 
 -- plain answers, whatever happened before
@@ -125,28 +100,37 @@ plain_said k id (answer.Sequence values page first) items p = absurd cc
 
 -- an accepted call adds its item
 adds : (old now : RpcValue) (table : TableValue) (call : RpcCall) (items : List RpcItem) (at : ℕ) (rest : List ℕ) → RpcStands old items at rest → call_refusal (encoder old.terms.encoding) call items ≡ None → is_built call ≡ true
-    → now ≡ with_said (said (Did call) items) (with_table table old) → TableStands false now.table (Did call ∷ items) → Adds old now items at rest (Did call)
-adds old now table call items at rest s accepted built is t =
+    → AreMessages (said (Did call) items) → now ≡ with_said (said (Did call) items) (with_table table old) → TableStands false now.table (Did call ∷ items) → Adds old now items at rest (Did call)
+adds old now table call items at rest s accepted built says is t =
     subst (λ (n : RpcValue). TableStands false n.table (Did call ∷ items) → Adds old n items at rest (Did call)) (sym is)
     (λ stands. record {
-      stands = record { table = stands; at_is = s.at_is; rest_is = s.rest_is; state = s.state; allowed = (accepted, s.allowed); built = rw built s.built };
+      stands = record {
+        table = stands;
+        at_is = s.at_is;
+        rest_is = s.rest_is;
+        state = s.state;
+        allowed = (accepted, s.allowed);
+        built = rw built s.built;
+        said = both_messages (all_said items) (said (Did call) items) s.said says;
+        named = λ id w. s.named id (waits_still call items id w);
+      };
       output = refl;
       terms_stay = refl;
     }) t
 
 module _ {A : Type 0} (old made : RpcValue) (table : TableValue) (call : RpcCall) (items : List RpcItem) (at : ℕ) (rest : List ℕ) (x : A) (IsAnswer : A → Type 0) where
   answered : (early late : Option Refusal) (given : Result A CallFault) → RpcStands old items at rest → is_built call ≡ true → call_refusal (encoder old.terms.encoding) call items ≡ or_else early late
-      → OnOk given (TableStands false made.table (Did call ∷ items)) → IsAnswer x → Makes old made early late (with_said (said (Did call) items) (with_table table old)) x given
+      → OnOk given (AreMessages (said (Did call) items)) → OnOk given (TableStands false made.table (Did call ∷ items)) → IsAnswer x → Makes old made early late (with_said (said (Did call) items) (with_table table old)) x given
       → CallAnswers old (finished given made) items at rest call (or_else early late) early IsAnswer given
-  answered None None (Ok y) s built law stands answer makes = (adds old made table call items at rest s law built makes.0 stands, subst IsAnswer (sym makes.1) answer)
-  answered None None (Err fault.OutOfMemory) s built law stands answer makes = refl
-  answered None None (Err (fault.Refused r)) s built law stands answer makes = absurd makes
-  answered None (Some t) (Ok y) s built law stands answer makes = absurd makes
-  answered None (Some t) (Err fault.OutOfMemory) s built law stands answer makes = refl
-  answered None (Some t) (Err (fault.Refused r)) s built law stands answer makes = makes
-  answered (Some t) late (Ok y) s built law stands answer makes = absurd makes
-  answered (Some t) late (Err fault.OutOfMemory) s built law stands answer makes = absurd makes
-  answered (Some t) late (Err (fault.Refused r)) s built law stands answer makes = makes
+  answered None None (Ok y) s built law says stands answer makes = (adds old made table call items at rest s law built says makes.0 stands, subst IsAnswer (sym makes.1) answer)
+  answered None None (Err fault.OutOfMemory) s built law says stands answer makes = refl
+  answered None None (Err (fault.Refused r)) s built law says stands answer makes = absurd makes
+  answered None (Some t) (Ok y) s built law says stands answer makes = absurd makes
+  answered None (Some t) (Err fault.OutOfMemory) s built law says stands answer makes = refl
+  answered None (Some t) (Err (fault.Refused r)) s built law says stands answer makes = makes
+  answered (Some t) late (Ok y) s built law says stands answer makes = absurd makes
+  answered (Some t) late (Err fault.OutOfMemory) s built law says stands answer makes = absurd makes
+  answered (Some t) late (Err (fault.Refused r)) s built law says stands answer makes = makes
 
 no_end : (cause : Option Cause) (s : EndState) → s ≡ state_by cause → running_refusal s ≡ None → cause ≡ None
 no_end None s e running = refl
@@ -161,8 +145,8 @@ module _ {A : Type 0} (old made : RpcValue) (table : TableValue) (call : RpcCall
   -- what a call of a running end makes answers it, once an end stops where memory ran out
   pub call_answers : (new : RpcValue) (early : Option Refusal) (messages : List Message) (given result : Result A CallFault) → RpcStands old items at rest → running_refusal old.state ≡ None → is_of_the_past call ≡ false → is_built call ≡ true
       → early ≡ state_refusal call items → messages ≡ said (Did call) items → said_refusal (encoder old.terms.encoding) call items ≡ first_refusal (encoder old.terms.encoding) (said (Did call) items)
-      → OnOk given (TableStands false made.table (Did call ∷ items)) → IsAnswer x → Calls old made early messages table x given → result ≡ given → new ≡ finished given made → Answers old new items at rest call IsAnswer result
-  call_answers new early messages given result s running past built early_is says late_is stands answer calls same finish =
+      → OnOk given (AreMessages messages) → OnOk given (TableStands false made.table (Did call ∷ items)) → IsAnswer x → Calls old made early messages table x given → result ≡ given → new ≡ finished given made → Answers old new items at rest call IsAnswer result
+  call_answers new early messages given result s running past built early_is says late_is fine stands answer calls same finish =
       let k : Encoder = encoder old.terms.encoding in
       let late : Option Refusal = first_refusal k (said (Did call) items) in
       let none = no_end (ended items) old.state s.state running in
@@ -173,7 +157,7 @@ module _ {A : Type 0} (old made : RpcValue) (table : TableValue) (call : RpcCall
       (subst (λ (n : RpcValue). Answers old n items at rest call IsAnswer given) (sym finish)
       (subst (λ (o : Option Refusal). CallAnswers old (finished given made) items at rest call o (early_refusal call items) IsAnswer given) (sym law)
       (subst (λ (o : Option Refusal). CallAnswers old (finished given made) items at rest call (or_else early late) o IsAnswer given) (sym early_law)
-      (answered old made table call items at rest x IsAnswer early late given s built law stands answer makes))))
+      (answered old made table call items at rest x IsAnswer early late given s built law (subst (λ (m : List Message). OnOk given (AreMessages m)) says fine) stands answer makes))))
 
 -- no call changes how an end writes and reads
 makes_terms : {A : Type 0} (old made now : RpcValue) (early late : Option Refusal) (x : A) (given : Result A CallFault) → now.terms ≡ old.terms → Makes old made early late now x given → made.terms ≡ old.terms
@@ -222,9 +206,9 @@ chosen None two three = refl
 chosen (Some r) two three = refl
 
 no_handle : (items : List RpcItem) → are_built items ≡ true → 0 ≡ last_handle items
-no_handle items b = sym (ap length (none_made items b))
+no_handle items b = sym (ap length (made_none items b))
 
-pub ask_early : (method : List ℕ) (args : Arguments) (expect : Expect) (table : TableValue) (items : List RpcItem) → are_plain args ≡ true → are_built items ≡ true → TableStands false table items → or_else (plain_refusal method args) (full_refusal table) ≡ state_refusal (Ask method args expect) items
+pub ask_early : (method : List ℕ) (args : Arguments) (expect : Expect) (table : TableValue) (items : List RpcItem) → are_built_args args ≡ true → are_built items ≡ true → TableStands false table items → or_else (plain_refusal method args) (full_refusal table) ≡ state_refusal (Ask method args expect) items
 ask_early method args expect table items p b t =
     let plain = plain_args args items p b in
     chosen (reserved_refusal method) (member_refusal args) (full_refusal table) ∙ (λ i. or_else (reserved_refusal method) (or_else (sym plain i) (if nat_le most_drawn (t.count i) then Some refusal.TooManyRequests else None)))
@@ -236,15 +220,14 @@ when_ok : {A P Q : Type 0} (given : Result A CallFault) → (P → Q) → OnOk g
 when_ok (Ok y) f p = f p
 when_ok (Err e) f p = tt
 
-pub ask_stands : {A : Type 0} (given : Result A CallFault) (method : List ℕ) (args : Arguments) (expect : Expect) (table : TableValue) (items : List RpcItem) → are_plain args ≡ true → OnOk given (StandsDrawn expect false table items) → OnOk given (TableStands false table (Did (Ask method args expect) ∷ items))
-ask_stands given method args expect table items p drawn = when_ok given (λ stands. stands (Ask method args expect) None (ap (λ progress. asked_as expect progress None ∷ []) (plain_progress (arg_list args) p))) drawn
+pub ask_stands : {A : Type 0} (given : Result A CallFault) (method : List ℕ) (args : Arguments) (expect : Expect) (table : TableValue) (items : List RpcItem) → OnOk given (StandsDrawn expect (has_progress_arg (arg_list args)) table items) → OnOk given (TableStands false table (Did (Ask method args expect) ∷ items))
+ask_stands given method args expect table items drawn = when_ok given (λ stands. stands (Ask method args expect) None refl) drawn
 
 -- notifications
-pub tell_early : (method : List ℕ) (args : Arguments) (items : List RpcItem) → are_plain args ≡ true → are_built items ≡ true → plain_refusal method args ≡ state_refusal (Tell method args) items
+pub tell_early : (method : List ℕ) (args : Arguments) (items : List RpcItem) → are_built_args args ≡ true → are_built items ≡ true → told_refusal method args ≡ state_refusal (Tell method args) items
 tell_early method args items p b =
     let plain = plain_args args items p b in
-    let needs = plain_needs (arg_list args) p in
-    λ i. or_else (reserved_refusal method) (or_else (if sym needs i then Some refusal.NeedsRequest else None) (sym plain i))
+    λ i. or_else (reserved_refusal method) (or_else (needs_refusal args) (sym plain i))
 
 pub tell_says : (method : List ℕ) (args : Arguments) (items : List RpcItem) → are_built items ≡ true → said (Did (Tell method args)) [] ≡ said (Did (Tell method args)) items
 tell_says method args items b = λ i. Notification method (params_of 0 (no_handle items b i) args) ∷ []
@@ -263,6 +246,71 @@ tell_stands old made early messages x given method args items t calls =
 pub reply_early : (id : Id) (given : Answer) (table : TableValue) (items : List RpcItem) → is_plain_answer given ≡ true → TableStands false table items → reply_refusal id given table ≡ state_refusal (Respond id given) items
 reply_early id given table items p t = λ i. if t.waiting id i then plain_reply given items p i else Some refusal.NoRequest
 
+-- a response that is said has an id that a value can tell
+was_waiting : (waits : Bool) (refused : Option Refusal) → (if waits then refused else Some refusal.NoRequest) ≡ None → waits ≡ true
+was_waiting true refused e = refl
+was_waiting false refused e = absurd (cc e)
+
+unrefused : {A : Type 0} (old made now : RpcValue) (early late : Option Refusal) (x : A) (given : Result A CallFault) → Makes old made early late now x given → OnOk given (early ≡ None)
+unrefused old made now early late x (Err e) makes = tt
+unrefused old made now None late x (Ok y) makes = refl
+unrefused old made now (Some t) late x (Ok y) makes = absurd makes
+
+both_ok : {A : Type 0} (P Q : Type 0) (given : Result A CallFault) → OnOk given (P → Q) → OnOk given P → OnOk given Q
+both_ok P Q (Ok y) f p = f p
+both_ok P Q (Err e) f p = tt
+
+pub reply_fine : {A : Type 0} (old made : RpcValue) (id : Id) (given : Answer) (messages : List Message) (table : TableValue) (x : A) (result : Result A CallFault) (items : List RpcItem) → TableStands false old.table items → ((i : Id) → is_waiting i items ≡ true → IsNamed i)
+    → Calls old made (reply_refusal id given old.table) messages table x result → OnOk result (IsNamed id → AreMessages messages) → OnOk result (AreMessages messages)
+reply_fine old made id given messages table x result items t named calls fine =
+    both_ok (IsNamed id) (AreMessages messages) result fine
+    (when_ok result (λ free. named id (sym (t.waiting id) ∙ was_waiting (waits_in id old.table) (answer_refusal given []) free))
+    (unrefused old made _ (reply_refusal id given old.table) _ x result calls))
+
+-- reports
+pub report_early : (id token : Id) (value : Tree) (table : TableValue) (items : List RpcItem) → TableStands false table items → unless_there (waits_in id table) ≡ state_refusal (Report id token value) items
+report_early id token value table items t = λ i. if t.waiting id i then None else Some refusal.NoRequest
+
+pub report_stands : {A : Type 0} (old made : RpcValue) (early : Option Refusal) (messages : List Message) (x : A) (given : Result A CallFault) (id token : Id) (value : Tree) (items : List RpcItem) → TableStands false old.table items → Calls old made early messages old.table x given → OnOk given (TableStands false made.table (Did (Report id token value) ∷ items))
+report_stands old made early messages x given id token value items t calls =
+    when_ok given (λ is. subst (λ (e : RpcValue). TableStands false e.table (Did (Report id token value) ∷ items)) (sym is) (report_leaves false old.table id token value items t)) (made_so old made _ early _ x given calls)
+
+-- reports that are taken
+module _ (end : RpcValue) (now : TableValue) (items : List RpcItem) (at : ℕ) (rest : List ℕ) (n : ℕ) where
+  abbrev IsOldest : Option Tree → Type 0
+  IsOldest report = report ≡ slice_get (reports n items) 0
+
+  taken_as : (report : Option Tree) → Takes None n end.table now (Ok report) → left_in n end.table ≡ reports n items → IsOldest report
+  taken_as report takes left = takes.0 ∙ ap (λ (ts : List Tree). slice_get ts 0) left
+
+  no_refusal : (refused : Option Refusal) (report : Option Tree) → Takes refused n end.table now (Ok report) → refused ≡ None
+  no_refusal None report takes = refl
+  no_refusal (Some r) report takes = absurd takes
+
+  takes_by : (refused : Option Refusal) (report : Option Tree) → refused ≡ None → Adds end (with_table now end) items at rest (Did (TakeReport n)) → IsOldest report → CallAnswers end (with_table now end) items at rest (TakeReport n) refused refused IsOldest (Ok report)
+  takes_by None report e more oldest = (more, oldest)
+  takes_by (Some r) report e more oldest = absurd (cc e)
+
+  pub takes : (report : Option Tree) → RpcStands end items at rest → Takes (take_refusal n end.table) n end.table now (Ok report) → TableStands false now (Did (TakeReport n) ∷ items)
+      → Answers end (with_table now end) items at rest (TakeReport n) IsOldest (Ok report)
+  takes report s does t =
+      let law : take_refusal n end.table ≡ state_refusal (TakeReport n) items = takes_as false end.table items n s.table in
+      let open_ : take_refusal n end.table ≡ None = no_refusal (take_refusal n end.table) report does in
+      let accepted : state_refusal (TakeReport n) items ≡ None = sym law ∙ open_ in
+      let made : Takes None n end.table now (Ok report) = subst (λ (o : Option Refusal). Takes o n end.table now (Ok report)) open_ does in
+      takes_by (state_refusal (TakeReport n) items) report accepted
+      (adds end (with_table now end) now (TakeReport n) items at rest s accepted refl tt (λ i. record (with_table now end) { output = sym (append-nil end.output) i }) t)
+      (taken_as report made (lefts false end.table items n s.table accepted))
+
+  not_taken : (refused other : Option Refusal) (r : Refusal) → refused ≡ other → Takes refused n end.table now (Err r) → CallAnswers end (with_table now end) items at rest (TakeReport n) other other IsOldest (Err (fault.Refused r))
+  not_taken refused None r e does = absurd (subst (λ (o : Option Refusal). Takes o n end.table now (Err r)) e does)
+  not_taken refused (Some t) r e does =
+      let why : (r ≡ t) × (now ≡ end.table) = subst (λ (o : Option Refusal). Takes o n end.table now (Err r)) e does in
+      (why.0, ap (λ (t : TableValue). with_table t end) why.1)
+
+  pub take_fails : (r : Refusal) → RpcStands end items at rest → Takes (take_refusal n end.table) n end.table now (Err r) → Answers end (with_table now end) items at rest (TakeReport n) IsOldest (Err (fault.Refused r))
+  take_fails r s does = not_taken (take_refusal n end.table) (state_refusal (TakeReport n) items) r (takes_as false end.table items n s.table) does
+
 -- outcomes that are dropped
 there : (known : Bool) (old now next : TableValue) → Does {A = Unit {0}} (unless_there known) old now next (Ok tt) → known ≡ true
 there true old now next does = refl
@@ -277,13 +325,13 @@ module _ (end : RpcValue) (now : TableValue) (items : List RpcItem) (at : ℕ) (
   was_there true k more = (more, tt)
   was_there false k more = absurd cc
 
-  pub forgets : RpcStands end items at rest → Does {A = Unit {0}} (unless_there (is_known (look_in n end.table))) end.table now (with_kept n Forgotten end.table) (Ok tt) → TableStands false now (Did (Forget n) ∷ items)
+  pub forgets : RpcStands end items at rest → Does {A = Unit {0}} (unless_there (is_known (look_in n end.table))) end.table now (with_forgotten n end.table) (Ok tt) → TableStands false now (Did (Forget n) ∷ items)
       → Answers {A = Unit {0}} end (with_table now end) items at rest (Forget n) (λ _. Unit {0}) (Ok tt)
   forgets s does t =
       let known : is_known (outcome false n items) ≡ true = sym (known_law n end.table items s.table) ∙ there _ end.table now _ does in
       let accepted : state_refusal (Forget n) items ≡ None = ap (λ b. if b then None else Some refusal.NoRequest) known in
       was_there (is_known (outcome false n items)) known
-      (adds end (with_table now end) now (Forget n) items at rest s accepted refl (λ i. record (with_table now end) { output = sym (append-nil end.output) i }) t)
+      (adds end (with_table now end) now (Forget n) items at rest s accepted refl tt (λ i. record (with_table now end) { output = sym (append-nil end.output) i }) t)
 
   not_there : (known other : Bool) (next : TableValue) (r : Refusal) → known ≡ other → Does {A = Unit {0}} (unless_there known) end.table now next (Err r)
       → CallAnswers {A = Unit {0}} end (with_table now end) items at rest (Forget n) (if other then None else Some refusal.NoRequest) (if other then None else Some refusal.NoRequest) (λ _. Unit {0}) (Err (fault.Refused r))
@@ -291,6 +339,6 @@ module _ (end : RpcValue) (now : TableValue) (items : List RpcItem) (at : ℕ) (
   not_there false true next r e does = absurd cc
   not_there false false next r e does = (does.0, ap (λ (t : TableValue). with_table t end) does.1)
 
-  pub forget_fails : (r : Refusal) → RpcStands end items at rest → Does {A = Unit {0}} (unless_there (is_known (look_in n end.table))) end.table now (with_kept n Forgotten end.table) (Err r)
+  pub forget_fails : (r : Refusal) → RpcStands end items at rest → Does {A = Unit {0}} (unless_there (is_known (look_in n end.table))) end.table now (with_forgotten n end.table) (Err r)
       → Answers {A = Unit {0}} end (with_table now end) items at rest (Forget n) (λ _. Unit {0}) (Err (fault.Refused r))
   forget_fails r s does = not_there _ _ _ r (known_law n end.table items s.table) does

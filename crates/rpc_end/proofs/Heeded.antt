@@ -33,7 +33,7 @@ use Rattle.rpc_items.specs.PeerHandles.{is_service}
 use Rattle.rpc_items.specs.Produced.{Produced, produced_at}
 use Rattle.rpc_items.specs.Producing.{is_aborted, is_open, is_producing, page_count, sequence_named}
 use Rattle.rpc_items.specs.Refusals.{message_refusal}
-use Rattle.rpc_items.specs.Reports.{has_progress}
+use Rattle.rpc_items.specs.Reports.{has_progress, report_by}
 use Rattle.rpc_items.specs.Saying.{said}
 use Rattle.rpc_items.specs.Waiting.{asks, is_waiting}
 use Rattle.rpc_items.specs.Writing.{message_value}
@@ -46,13 +46,14 @@ use Rattle.call_table.specs.declared.answers.Settled.{Settled}
 use Rattle.call_table.specs.declared.answers.Settled.TheVariants.{First, Stray}
 use Rattle.call_table.specs.declared.entry.Entry.{Entry}
 use Rattle.call_table.specs.Stands.{TableStands}
-use Rattle.call_table.specs.Table.{TableValue, entry_of, heard, named_in, settled, settled_by, settled_in, waits_for, waits_in}
+use Rattle.call_table.specs.Table.{TableValue, entry_of, heard, named_in, reported_in, settled, settled_by, settled_in, waits_for, waits_in}
 use Rattle.call_table.proofs.After.{heard_after, settled_after}
+use Rattle.call_table.proofs.Answering.{reported_stands}
 use Rattle.call_table.proofs.Passing.{nameless_error_leaves, notification_leaves, unasked_leaves}
-use Rattle.call_table.proofs.Reading.{names}
+use Rattle.call_table.proofs.Reading.{if_progress, names, reports_as}
 use Rattle.rpc_end.specs.Built.{are_built}
-use Rattle.rpc_end.specs.Heeding.{answers_by, broken_by, event_by, extension_event, heard_by, notification_event_by, request_event_by, said_by, settled_event, table_by}
-use Rattle.rpc_end.proofs.Plain.{no_progress, not_live, unmade, unproduced}
+use Rattle.rpc_end.specs.Heeding.{answers_by, broken_by, event_by, extended_by, extension_event, heard_by, notification_event_by, report_event, request_event_by, said_by, settled_event, table_by}
+use Rattle.rpc_end.proofs.Plain.{not_live, unmade, unproduced}
 
 -- answers
 
@@ -87,9 +88,16 @@ said_is place (message.Error id code text more) items h = refl
 -- events
 
 module _ (table : TableValue) (items : List RpcItem) (s : TableStands false table items) (h : are_built items ≡ true) where
-  unreported : (n : Option ℕ) (method : List ℕ) → reported_event n method items ≡ event.Handled method
-  unreported (Some n) method = ap (λ (b : Bool). if b then event.Reported n else event.Handled method) (no_progress n items h)
-  unreported None method = refl
+  told_if : (b : Bool) (n : ℕ) (method : List ℕ) → report_event (if b then Some n else None) method ≡ (if b then event.Reported n else event.Handled method)
+  told_if true n method = refl
+  told_if false n method = refl
+
+  report_told : (o : Option ℕ) (method : List ℕ) → report_event (if_progress o items) method ≡ reported_event o method items
+  report_told (Some n) method = told_if (has_progress n items) n method
+  report_told None method = refl
+
+  report_is : (token : Id) (method : List ℕ) → report_event (reported_in token table) method ≡ reported_event (request_named token items) method items
+  report_is token method = ap (λ (o : Option ℕ). report_event o method) (reports_as table items token s) ∙ report_told (request_named token items) method
 
   unreleased : (number : ℕ) (own : Bool) (method : List ℕ) → handled_event (Releases (record { number = number; own = own })) method items ≡ event.Handled method
   unreleased number true method = ap (λ (b : Bool). if b then event.Released (record { number = number; own = true }) else event.Handled method) (not_live number items h)
@@ -97,7 +105,7 @@ module _ (table : TableValue) (items : List RpcItem) (s : TableStands false tabl
 
   extension_is : (m : Meaning) (method : List ℕ) → is_service m ≡ false → extension_event m method table ≡ handled_event m method items
   extension_is (Cancels id) method other = ap (λ (b : Bool). if b then event.Cancelled id else event.Handled method) (s.waiting id)
-  extension_is (Reports token value) method other = sym (unreported (request_named token items) method)
+  extension_is (Reports token value) method other = report_is token method
   extension_is (Releases key) method other = sym (unreleased key.number key.own method)
   extension_is Serves method other = absurd (cc other)
   extension_is m method other = refl
@@ -150,7 +158,12 @@ module _ (table : TableValue) (items : List RpcItem) (s : TableStands false tabl
   request_leaves : (place : ℕ) (id : Id) (m : Meaning) (method : List ℕ) (params : Params) → meaning method params ≡ m → is_waiting id items ≡ false
       → TableStands false (heard_by id m table) (Got place (Request id method params) ∷ items)
   request_leaves place id Serves method params is free = heard_after id table (heard id table) place method params items refl s (ap (λ (m : Meaning). asks m items) is ∙ asks_by Serves)
-  request_leaves place id m method params is free = unasked_leaves false table place id method params items (ap (λ (m : Meaning). asks m items) is ∙ asks_by m) free s
+  request_leaves place id (Reports token value) method params is free = reported_stands token value place (Request id method params) table items (is, free) s
+  request_leaves place id m method params is free = unasked_leaves false table place id method params items (ap (λ (m : Meaning). asks m items) is ∙ asks_by m) (λ n. ap (report_by n) is) free s
+
+  notification_stands : (place : ℕ) (m : Meaning) (method : List ℕ) (params : Params) → meaning method params ≡ m → TableStands false (extended_by m table) (Got place (Notification method params) ∷ items)
+  notification_stands place (Reports token value) method params is = reported_stands token value place (Notification method params) table items is s
+  notification_stands place m method params is = notification_leaves false table place method params items (λ n. ap (report_by n) is) s
 
   unduplicated : (b : Bool) → (if b then Some DuplicateRequest else None) ≡ None → b ≡ false
   unduplicated true e = absurd (cc e)
@@ -162,7 +175,7 @@ module _ (table : TableValue) (items : List RpcItem) (s : TableStands false tabl
 
   pub table_stands : (place : ℕ) (m : Message) → message_refusal m items ≡ None → TableStands false (table_by m table) (Got place m ∷ items)
   table_stands place (Request id method params) ok = request_leaves place id (meaning method params) method params refl (unduplicated (is_waiting id items) ok)
-  table_stands place (Notification method params) ok = notification_leaves false table place method params items s
+  table_stands place (Notification method params) ok = notification_stands place (meaning method params) method params refl
   table_stands place (message.Result id value) ok = settled_after id (Replied value) table (settled (settled_in id table) (Replied value) table) place (message.Result id value) items refl s refl
   table_stands place (message.Error (Some id) code text more) ok = settled_after id (Failed code text more) table (settled (settled_in id table) (Failed code text more) table) place (message.Error (Some id) code text more) items refl s refl
   table_stands place (message.Error None code text more) ok = nameless_error_leaves false table place code text more items s

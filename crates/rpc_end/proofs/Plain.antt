@@ -1,5 +1,5 @@
--- Built calls make no objects and sequences, and ask for no reports.
-use Rattle.std.specs.Prelude.{ℕ, zero, suc, ◌+◌, ◌-◌, List, [], ◌∷◌, ◌++◌, Bool, true, false, not, ◌&&◌, ◌||◌, ◌==◌, is_some, slice_get, if◌then◌else◌, Option, Some, None}
+-- Built calls make no objects and sequences.
+use Rattle.std.specs.Prelude.{ℕ, ◌+◌, ◌-◌, List, [], ◌∷◌, ◌++◌, Bool, true, false, not, ◌&&◌, ◌||◌, ◌==◌, is_some, slice_get, if◌then◌else◌, Option, Some, None}
 use Rattle.std.specs.List.{list_all}
 use Rattle.std.proofs.Common.{◌≡◌, refl, sym, ◌∙◌, ap, subst}
 use Rattle.std.proofs.lemmas.Bool.{and_parts, cases_Bool}
@@ -7,31 +7,29 @@ use Rattle.wire_base.specs.declared.text.Id.{Id}
 use Rattle.rpc_items.specs.declared.calls.Answer.TheVariants as answer
 use Rattle.rpc_items.specs.declared.calls.Arg.{Arg}
 use Rattle.rpc_items.specs.declared.calls.Arg.TheVariants as arg
-use Rattle.rpc_items.specs.Drawn.{Asked, arg_list, asked, asked_at, asked_by, drawn, has_progress_arg, with_number}
-use Rattle.rpc_items.specs.Items.{RpcCall, Ask, Tell, Respond, Forget, RpcItem, Did, Got, End}
+use Rattle.rpc_items.specs.Drawn.{arg_list, drawn, with_number}
+use Rattle.rpc_items.specs.Items.{RpcCall, Ask, Tell, Respond, Cancel, Report, TakeReport, Forget, RpcItem, Did, Got, End}
 use Rattle.rpc_items.specs.Made.{Made, made, made_by, made_in}
 use Rattle.rpc_items.specs.OwnHandles.{own_live, own_made, own_ended}
 use Rattle.rpc_items.specs.Produced.{Produced, produced, produced_at, produced_by}
-use Rattle.rpc_items.specs.Reports.{has_progress, progress_of}
-use Rattle.rpc_end.specs.Built.{are_built, are_plain, is_built_item, is_plain, is_plain_arg}
+use Rattle.rpc_end.specs.Built.{are_built, are_built_args, is_built_arg, is_built_item, is_plain}
 
-makes_none : (request : Option ℕ) (args : List Arg) → list_all is_plain_arg args ≡ true → made_in request args ≡ []
+pub makes_none : (request : Option ℕ) (args : List Arg) → list_all is_built_arg args ≡ true → made_in request args ≡ []
 makes_none request [] h = refl
 makes_none request (arg.Plain value ∷ args) h = makes_none request args h
+makes_none request (arg.Progress ∷ args) h = makes_none request args h
 makes_none request (a ∷ args) h = absurd (cc h)
-
-asks_no_progress : (args : List Arg) → list_all is_plain_arg args ≡ true → has_progress_arg args ≡ false
-asks_no_progress [] h = refl
-asks_no_progress (arg.Plain value ∷ args) h = asks_no_progress args h
-asks_no_progress (a ∷ args) h = absurd (cc h)
 
 -- no objects
 
 made_by_none : (number : ℕ) (item : RpcItem) → is_built_item item ≡ true → made_by number item ≡ []
-made_by_none number (Did (Ask method args expect)) h = makes_none (Some number) (arg_list args) (and_parts (are_plain args) (is_plain expect) h).0
+made_by_none number (Did (Ask method args expect)) h = makes_none (Some number) (arg_list args) (and_parts (are_built_args args) (is_plain expect) h).0
 made_by_none number (Did (Tell method args)) h = makes_none None (arg_list args) h
 made_by_none number (Did (Respond id (answer.Value value))) h = refl
 made_by_none number (Did (Respond id (answer.Fault code text more))) h = refl
+made_by_none number (Did (Cancel n)) h = refl
+made_by_none number (Did (Report id token value)) h = refl
+made_by_none number (Did (TakeReport n)) h = refl
 made_by_none number (Did (Forget n)) h = refl
 made_by_none number (Did call) h = absurd (cc h)
 made_by_none number (Got place message) h = refl
@@ -63,6 +61,9 @@ produced_by_none (Did (Ask method args expect)) h = refl
 produced_by_none (Did (Tell method args)) h = refl
 produced_by_none (Did (Respond id (answer.Value value))) h = refl
 produced_by_none (Did (Respond id (answer.Fault code text more))) h = refl
+produced_by_none (Did (Cancel n)) h = refl
+produced_by_none (Did (Report id token value)) h = refl
+produced_by_none (Did (TakeReport n)) h = refl
 produced_by_none (Did (Forget n)) h = refl
 produced_by_none (Did call) h = absurd (cc h)
 produced_by_none (Got place message) h = refl
@@ -76,45 +77,3 @@ produced_none (item ∷ items) h =
 
 pub unproduced : (token : ℕ) (items : List RpcItem) → are_built items ≡ true → produced_at token items ≡ None
 unproduced token items h = none_at token (produced items) (produced_none items h)
-
--- no reports
-
-abbrev is_silent : Asked → Bool
-is_silent asked = not asked.progress
-
-silent_by : (item : RpcItem) → is_built_item item ≡ true → list_all is_silent (asked_by item) ≡ true
-silent_by (Did (Ask method args expect)) h = rw (asks_no_progress (arg_list args) (and_parts (are_plain args) (is_plain expect) h).0) refl
-silent_by (Did (Tell method args)) h = refl
-silent_by (Did (Respond id response)) h = refl
-silent_by (Did (Forget n)) h = refl
-silent_by (Did call) h = absurd (cc h)
-silent_by (Got place message) h = refl
-silent_by (End cause) h = refl
-
-all_of_both : (xs ys : List Asked) → list_all is_silent xs ≡ true → list_all is_silent ys ≡ true → list_all is_silent (xs ++ ys) ≡ true
-all_of_both [] ys h k = k
-all_of_both (x ∷ xs) ys h k =
-    let p = and_parts (is_silent x) (list_all is_silent xs) h in
-    rw p.0 (all_of_both xs ys p.1 k)
-
-silent : (items : List RpcItem) → are_built items ≡ true → list_all is_silent (asked items) ≡ true
-silent [] h = refl
-silent (item ∷ items) h =
-    let p = and_parts (is_built_item item) (are_built items) h in
-    all_of_both (asked items) (asked_by item) (silent items p.1) (silent_by item p.0)
-
-unasked : (b : Bool) → not b ≡ true → b ≡ false
-unasked true h = absurd (cc h)
-unasked false h = refl
-
-silent_at : (xs : List Asked) (i : ℕ) → list_all is_silent xs ≡ true → progress_of (slice_get xs i) ≡ false
-silent_at [] i h = refl
-silent_at (x ∷ xs) zero h = unasked x.progress (and_parts (is_silent x) (list_all is_silent xs) h).0
-silent_at (x ∷ xs) (suc i) h = silent_at xs i (and_parts (is_silent x) (list_all is_silent xs) h).1
-
-pub no_progress : (n : ℕ) (items : List RpcItem) → are_built items ≡ true → has_progress n items ≡ false
-no_progress n items h = by_zero (n == 0)
-  where
-    by_zero : (b : Bool) → progress_of (if b then None else slice_get (asked items) (n - 1)) ≡ false
-    by_zero true = refl
-    by_zero false = silent_at (asked items) (n - 1) (silent items h)

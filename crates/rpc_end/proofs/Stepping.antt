@@ -5,6 +5,7 @@ use Rattle.std.proofs.lemmas.List.{append-nil}
 use Rattle.wire_base.specs.declared.reason.Reason.{Reason}
 use Rattle.wire_base.specs.declared.state.Cause.{Cause}
 use Rattle.wire_base.specs.declared.state.EndState.TheVariants as state
+use Rattle.message_body.specs.AsRead.{AreMessages}
 use Rattle.message_body.specs.Found.{body_in}
 use Rattle.message_body.specs.Written.{encoder}
 use Rattle.message_framing.specs.declared.front.Front.{Front}
@@ -17,7 +18,7 @@ use Rattle.rpc_items.specs.Allowed.{AreAllowed}
 use Rattle.rpc_items.specs.Events.{event_of}
 use Rattle.rpc_items.specs.Items.{RpcItem, Got, End, ended}
 use Rattle.rpc_items.specs.Refusals.{message_refusal}
-use Rattle.rpc_items.specs.Saying.{said}
+use Rattle.rpc_items.specs.Saying.{all_said, said}
 use Rattle.rpc_items.specs.declared.calls.Outcome.TheVariants.{Lost}
 use Rattle.call_table.specs.Table.{over}
 use Rattle.call_table.proofs.After.{lost_after}
@@ -26,11 +27,13 @@ use Rattle.rpc_end.specs.declared.step.RpcStep.TheVariants as step
 use Rattle.rpc_end.specs.declared.terms.Terms.{Terms}
 use Rattle.rpc_end.specs.Arrivals.{Arrival, Applies, Waits, Refuses, allowed_arrival, arrival, body_arrival, front_arrival}
 use Rattle.rpc_end.specs.Ends.{with_applied, with_end}
-use Rattle.rpc_end.specs.Heeding.{Steps, body_arrives, broken_by, event_by, front_arrives, message_arrives, said_by, with_heeded}
+use Rattle.rpc_end.specs.Heeding.{HasId, Steps, body_arrives, broken_by, event_by, front_arrives, message_arrives, said_by, with_heeded}
 use Rattle.rpc_end.specs.Replies.{Adds, StepAnswers, refused_at}
 use Rattle.rpc_end.specs.Stands.{RpcValue, RpcStands, state_by}
 use Rattle.rpc_end.specs.Texts.{message_texts}
 use Rattle.rpc_end.proofs.Heeded.{broken_is, event_is, said_is, table_stands}
+use Rattle.rpc_end.proofs.Named.{has_id}
+use Rattle.rpc_end.proofs.Said.{both_messages, named_then}
 
 -- an end that runs stands for items with no end
 runs : (cause : Option Cause) → state.Running ≡ state_by cause → cause ≡ None
@@ -71,6 +74,8 @@ module _ (old : RpcValue) (items : List RpcItem) (at : ℕ) (rest : List ℕ) (s
       state = refl;
       allowed = (running, s.allowed);
       built = s.built;
+      said = both_messages (all_said items) [] s.said tt;
+      named = s.named;
     };
     output = sym (append-nil old.output);
     terms_stay = refl;
@@ -81,8 +86,8 @@ module _ (old : RpcValue) (items : List RpcItem) (at : ℕ) (rest : List ℕ) (s
 
   -- a message that no rule refuses
 
-  applied : (place size : ℕ) (m : Message) → message_refusal m items ≡ None → Adds old (with_applied size (with_heeded m old)) items (at + size) (drop size rest) (Got place m)
-  applied place size m ok = record {
+  applied : (place size : ℕ) (m : Message) → message_refusal m items ≡ None → HasId m → AreMessages (said_by m) → Adds old (with_applied size (with_heeded m old)) items (at + size) (drop size rest) (Got place m)
+  applied place size m ok has says = record {
     stands = record {
       table = table_stands old.table items s.table s.built place m ok;
       at_is = ap (λ n. n + size) s.at_is;
@@ -90,25 +95,27 @@ module _ (old : RpcValue) (items : List RpcItem) (at : ℕ) (rest : List ℕ) (s
       state = s.state;
       allowed = ((running, ok), s.allowed);
       built = s.built;
+      said = both_messages (all_said items) (said (Got place m) items) s.said (subst AreMessages (sym (said_is place m items s.built)) says);
+      named = named_then place m items has s.named;
     };
     output = ap (λ (ms : List Message). old.output ++ message_texts old.terms ms) (sym (said_is place m items s.built));
     terms_stay = refl;
   }
 
   module _ (new : RpcValue) where
-    by_message : (m : Message) (place place' size : ℕ) (broken : Option Reason) (result : RpcStep) → place ≡ place' → message_refusal m items ≡ broken → Steps old new (allowed_arrival place m size broken) result
+    by_message : (m : Message) (place place' size : ℕ) (broken : Option Reason) (result : RpcStep) → place ≡ place' → message_refusal m items ≡ broken → HasId m → Steps old new (allowed_arrival place m size broken) result
         → StepAnswers old new items at rest None (allowed_arrival place' m size broken) result
-    by_message m place place' size None (step.Event e) same ok h =
-        (h.0 ∙ event_is old.table items s.table s.built m, subst (λ (n : RpcValue). Adds old n items (at + size) (drop size rest) (Got place' m)) (sym h.1) (applied place' size m ok))
-    by_message m place place' size None step.OutOfMemory same ok h = h.0
-    by_message m place place' size None step.Short same ok h = absurd h
-    by_message m place place' size None (step.Ended c) same ok h = absurd h
-    by_message m place place' size None step.Stopped same ok h = absurd h
-    by_message m place place' size (Some r) (step.Ended c) same ok h = (h.0 ∙ ap (λ n. refused_at n r) same, ends new c h.1)
-    by_message m place place' size (Some r) step.OutOfMemory same ok h = h.0
-    by_message m place place' size (Some r) (step.Event e) same ok h = absurd h
-    by_message m place place' size (Some r) step.Short same ok h = absurd h
-    by_message m place place' size (Some r) step.Stopped same ok h = absurd h
+    by_message m place place' size None (step.Event e) same ok has h =
+        (h.0 ∙ event_is old.table items s.table s.built m, subst (λ (n : RpcValue). Adds old n items (at + size) (drop size rest) (Got place' m)) (sym h.1) (applied place' size m ok has h.2))
+    by_message m place place' size None step.OutOfMemory same ok has h = h.0
+    by_message m place place' size None step.Short same ok has h = absurd h
+    by_message m place place' size None (step.Ended c) same ok has h = absurd h
+    by_message m place place' size None step.Stopped same ok has h = absurd h
+    by_message m place place' size (Some r) (step.Ended c) same ok has h = (h.0 ∙ ap (λ n. refused_at n r) same, ends new c h.1)
+    by_message m place place' size (Some r) step.OutOfMemory same ok has h = h.0
+    by_message m place place' size (Some r) (step.Event e) same ok has h = absurd h
+    by_message m place place' size (Some r) step.Short same ok has h = absurd h
+    by_message m place place' size (Some r) step.Stopped same ok has h = absurd h
 
     by_refusal : (place place' : ℕ) (r : Reason) (result : RpcStep) → place ≡ place' → Steps old new (Refuses place r) result → StepAnswers old new items at rest None (Refuses place' r) result
     by_refusal place place' r (step.Ended c) same h = (h.0 ∙ ap (λ n. refused_at n r) same, ends new c h.1)
@@ -117,15 +124,17 @@ module _ (old : RpcValue) (items : List RpcItem) (at : ℕ) (rest : List ℕ) (s
     by_refusal place place' r step.Short same h = absurd h
     by_refusal place place' r step.Stopped same h = absurd h
 
-    by_body : (found : Result Message (ℕ × Reason)) (start size : ℕ) (result : RpcStep) → Steps old new (body_arrives old (old.at + start) size found) result → StepAnswers old new items at rest None (body_arrival items (at + start) size found) result
-    by_body (Ok m) start size result h =
+    by_body : (found : Result Message (ℕ × Reason)) (start size : ℕ) (result : RpcStep) → ((m : Message) → found ≡ Ok m → HasId m) → Steps old new (body_arrives old (old.at + start) size found) result → StepAnswers old new items at rest None (body_arrival items (at + start) size found) result
+    by_body (Ok m) start size result has h =
         let broken = broken_is old.table items s.table s.built m in
-        by_message m (old.at + start) (at + start) size (message_refusal m items) result (ap (λ n. n + start) s.at_is) refl
+        by_message m (old.at + start) (at + start) size (message_refusal m items) result (ap (λ n. n + start) s.at_is) refl (has m refl)
         (subst (λ (b : Option Reason). Steps old new (allowed_arrival (old.at + start) m size b) result) broken h)
-    by_body (Err broken) start size result h = by_refusal (old.at + start + broken.0) (at + start + broken.0) broken.1 result (ap (λ n. n + start + broken.0) s.at_is) h
+    by_body (Err broken) start size result has h = by_refusal (old.at + start + broken.0) (at + start + broken.0) broken.1 result (ap (λ n. n + start + broken.0) s.at_is) h
 
     by_front : (f : Front) (result : RpcStep) → Steps old new (front_arrives old f) result → StepAnswers old new items at rest None (front_arrival old.terms items at old.rest f) result
-    by_front (fronts.Whole start size) result h = by_body (body_in old.terms.encoding (take size (drop start old.rest))) start (start + size) result h
+    by_front (fronts.Whole start size) result h =
+        let body = take size (drop start old.rest) in
+        by_body (body_in old.terms.encoding body) start (start + size) result (λ m. has_id old.terms.encoding body m) h
     by_front fronts.Short step.Short h = h
     by_front fronts.Short step.OutOfMemory h = h.0
     by_front fronts.Short (step.Event e) h = absurd h

@@ -1,6 +1,7 @@
--- Calls that are built: with plain arguments, for plain results, and answers that are values or errors.
-use Rattle.std.specs.Prelude.{List, Bool, true, false, ◌&&◌}
+-- Calls that are built: with arguments that are values or progress, for plain results, and answers that are values or errors.
+use Rattle.std.specs.Prelude.{ℕ, List, Bool, true, false, ◌&&◌}
 use Rattle.std.specs.List.{list_all}
+use Rattle.wire_base.specs.Tree.{Tree}
 use Rattle.rpc_items.specs.declared.calls.Answer.{Answer}
 use Rattle.rpc_items.specs.declared.calls.Answer.TheVariants as answer
 use Rattle.rpc_items.specs.declared.calls.Arg.{Arg}
@@ -9,16 +10,28 @@ use Rattle.rpc_items.specs.declared.calls.Arguments.{Arguments}
 use Rattle.rpc_items.specs.declared.calls.Expect.{Expect}
 use Rattle.rpc_items.specs.declared.calls.Expect.TheVariants.{Plain, Sequence}
 use Rattle.rpc_items.specs.Drawn.{arg_list}
-use Rattle.rpc_items.specs.Items.{RpcCall, Ask, Tell, Respond, Forget, RpcItem, Did}
+use Rattle.rpc_items.specs.Ids.{count_value}
+use Rattle.rpc_items.specs.Items.{RpcCall, Ask, Tell, Respond, Cancel, Report, TakeReport, Forget, RpcItem, Did}
 
--- whether an argument is a value
-abbrev pub is_plain_arg : Arg → Bool
-is_plain_arg (arg.Plain value) = true
-is_plain_arg a = false
+-- whether an argument is a value, or asks for progress
+abbrev pub is_built_arg : Arg → Bool
+is_built_arg (arg.Plain value) = true
+is_built_arg arg.Progress = true
+is_built_arg a = false
 
--- whether all arguments are values
-abbrev pub are_plain : Arguments → Bool
-are_plain args = list_all is_plain_arg (arg_list args)
+-- whether all arguments are values, or ask for progress
+abbrev pub are_built_args : Arguments → Bool
+are_built_args args = list_all is_built_arg (arg_list args)
+
+-- whether an argument asks for progress
+abbrev pub is_progress : Arg → Bool
+is_progress arg.Progress = true
+is_progress a = false
+
+-- an argument that is a value or asks for progress, as it is said in a request of number n
+abbrev pub arg_value : ℕ → Arg → Tree
+arg_value n (arg.Plain value) = value
+arg_value n a = count_value n
 
 -- whether a result is to be a value
 abbrev pub is_plain : Expect → Bool
@@ -33,9 +46,12 @@ is_plain_answer a = false
 
 -- whether a call is built
 abbrev pub is_built : RpcCall → Bool
-is_built (Ask method args expect) = are_plain args && is_plain expect
-is_built (Tell method args) = are_plain args
+is_built (Ask method args expect) = are_built_args args && is_plain expect
+is_built (Tell method args) = are_built_args args
 is_built (Respond id answer) = is_plain_answer answer
+is_built (Cancel n) = true
+is_built (Report id token value) = true
+is_built (TakeReport n) = true
 is_built (Forget n) = true
 is_built call = false
 

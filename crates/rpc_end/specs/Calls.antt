@@ -1,9 +1,11 @@
 -- What the calls of a running end are refused for, and what they make of it.
 use Rattle.std.specs.Prelude.{◌≡◌, ℕ, List, [], if◌then◌else◌, Option, Some, None, Result, Ok, Err}
+use Rattle.std.specs.List.{list_any}
 use Rattle.call_table.specs.Table.{TableValue, waits_in}
 use Rattle.message_body.specs.Written.{encoder}
-use Rattle.rpc_items.specs.Arguments.{has_reserved}
+use Rattle.rpc_items.specs.Arguments.{has_reserved, needs_request}
 use Rattle.rpc_items.specs.Bodies.{first_refusal, or_else}
+use Rattle.rpc_items.specs.Drawn.{arg_list}
 use Rattle.rpc_items.specs.Refusals.{answer_refusal, reserved_refusal}
 use Rattle.rpc_items.specs.declared.calls.Answer.{Answer}
 use Rattle.rpc_items.specs.declared.calls.Arguments.{Arguments}
@@ -24,13 +26,21 @@ running_refusal state.Running = None
 running_refusal (state.Ended cause) = Some (refusal.Ended cause)
 running_refusal state.Stopped = Some refusal.Stopped
 
--- why arguments are refused that are all values
+-- why arguments are refused that are all values or progress
 abbrev pub member_refusal : Arguments → Option Refusal
 member_refusal args = if has_reserved args then Some refusal.ReservedMember else None
 
--- why a method is refused, or its arguments that are all values
+-- why a method is refused, or its arguments that are all values or progress, in a request
 abbrev pub plain_refusal : (method : List ℕ) → Arguments → Option Refusal
 plain_refusal method args = or_else (reserved_refusal method) (member_refusal args)
+
+-- why arguments are refused that only a request may have
+abbrev pub needs_refusal : Arguments → Option Refusal
+needs_refusal args = if list_any needs_request (arg_list args) then Some refusal.NeedsRequest else None
+
+-- the same in a notification
+abbrev pub told_refusal : (method : List ℕ) → Arguments → Option Refusal
+told_refusal method args = or_else (reserved_refusal method) (or_else (needs_refusal args) (member_refusal args))
 
 -- why an answer is refused that is a value or an error
 abbrev pub reply_refusal : Id → Answer → TableValue → Option Refusal

@@ -1,8 +1,9 @@
--- What messages are to a running end without objects, sequences and reports, by what it holds.
+-- What messages are to a running end without objects and sequences, by what it holds.
 use Rattle.std.specs.Prelude.{◌≡◌, ℕ, ◌+◌, List, [], ◌∷◌, ◌++◌, take, drop, codes, if◌then◌else◌, Option, Some, None, Result, Ok, Err}
-use Rattle.call_table.specs.Table.{TableValue, heard, settled, settled_in, waits_in}
+use Rattle.call_table.specs.Table.{TableValue, heard, reported, reported_in, settled, settled_in, waits_in}
 use Rattle.call_table.specs.declared.answers.Settled.{Settled}
 use Rattle.call_table.specs.declared.answers.Settled.TheVariants.{First, Stray}
+use Rattle.message_body.specs.AsRead.{AreMessages}
 use Rattle.message_body.specs.Found.{body_in}
 use Rattle.message_framing.specs.declared.front.Front.{Front}
 use Rattle.message_framing.specs.declared.front.Front.TheVariants as fronts
@@ -16,7 +17,7 @@ use Rattle.rpc_items.specs.declared.messages.Message.TheVariants.{Request, Notif
 use Rattle.rpc_items.specs.declared.messages.Message.TheVariants as message
 use Rattle.rpc_items.specs.declared.messages.Params.{Params}
 use Rattle.rpc_items.specs.declared.methods.Meaning.{Meaning}
-use Rattle.rpc_items.specs.declared.methods.Meaning.TheVariants.{Serves, Cancels, Turns, Calls, Mistakes, Unknown}
+use Rattle.rpc_items.specs.declared.methods.Meaning.TheVariants.{Serves, Cancels, Reports, Turns, Calls, Mistakes, Unknown}
 use Rattle.rpc_items.specs.Automatic.{bad_arguments, done, fault, no_method, nothing_there}
 use Rattle.rpc_items.specs.Fitting.{IsNamed}
 use Rattle.rpc_items.specs.Meanings.{meaning}
@@ -46,9 +47,15 @@ abbrev pub named_table : Option Id → Outcome → TableValue → TableValue
 named_table (Some id) outcome table = settled (settled_in id table) outcome table
 named_table None outcome table = table
 
--- the event of an extension, by the requests of the peer that wait
+-- a report is told where it is kept, by the request that it is kept for
+abbrev pub report_event : Option ℕ → (method : List ℕ) → RpcEvent
+report_event (Some n) method = event.Reported n
+report_event None method = event.Handled method
+
+-- the event of an extension, by the requests of the peer that wait and the own ones that may be reported on
 abbrev pub extension_event : Meaning → (method : List ℕ) → TableValue → RpcEvent
 extension_event (Cancels id) method table = if waits_in id table then event.Cancelled id else event.Handled method
+extension_event (Reports token value) method table = report_event (reported_in token table) method
 extension_event meaning method table = event.Handled method
 
 -- the event of a request
@@ -82,15 +89,20 @@ abbrev pub said_by : Message → List Message
 said_by (Request id method params) = answers_by id (meaning method params)
 said_by message = []
 
+-- the table after an extension: a report may be kept
+abbrev pub extended_by : Meaning → TableValue → TableValue
+extended_by (Reports token value) table = reported (reported_in token table) value table
+extended_by meaning table = table
+
 -- a request with this meaning waits where the service has to answer it
 abbrev pub heard_by : Id → Meaning → TableValue → TableValue
 heard_by id Serves table = heard id table
-heard_by id meaning table = table
+heard_by id meaning table = extended_by meaning table
 
 -- the table after a message
 abbrev pub table_by : Message → TableValue → TableValue
 table_by (Request id method params) table = heard_by id (meaning method params) table
-table_by (Notification method params) table = table
+table_by (Notification method params) table = extended_by (meaning method params) table
 table_by (message.Result id value) table = settled (settled_in id table) (Replied value) table
 table_by (message.Error id code text more) table = named_table id (Failed code text more) table
 
@@ -125,7 +137,7 @@ front_arrives end (fronts.Broken offset r) = Refuses (end.at + offset) r
 
 -- what a step makes of a running end
 abbrev pub Steps : (old new : RpcValue) → Arrival → RpcStep → Type 0
-Steps old new (Applies place message size) (step.Event e) = (e ≡ event_by message old.table) × (new ≡ with_applied size (with_heeded message old))
+Steps old new (Applies place message size) (step.Event e) = (e ≡ event_by message old.table) × (new ≡ with_applied size (with_heeded message old)) × AreMessages (said_by message)
 Steps old new Waits step.Short = new ≡ old
 Steps old new (Refuses place r) (step.Ended c) = (c ≡ refused_at place r) × (new ≡ with_end c old)
 Steps old new arrives step.OutOfMemory = (new.state ≡ state.Stopped) × (new.terms ≡ old.terms)

@@ -2,12 +2,17 @@
 use Rattle.std.specs.Prelude.{◌≡◌, ℕ, ◌+◌, List, length, true, false, Option, Some, None}
 use Rattle.call_table.specs.Stands.{TableStands}
 use Rattle.call_table.specs.Table.{TableValue}
+use Rattle.message_body.specs.AsRead.{AreMessages}
 use Rattle.message_body.specs.Written.{encoder}
 use Rattle.rpc_items.specs.Allowed.{AreAllowed}
+use Rattle.rpc_items.specs.Fitting.{IsNamed}
 use Rattle.rpc_items.specs.Items.{RpcItem, ended}
+use Rattle.rpc_items.specs.Saying.{all_said}
+use Rattle.rpc_items.specs.Waiting.{is_waiting}
 use Rattle.wire_base.specs.declared.state.Cause.{Cause}
 use Rattle.wire_base.specs.declared.state.EndState.{EndState}
 use Rattle.wire_base.specs.declared.state.EndState.TheVariants as state
+use Rattle.wire_base.specs.declared.text.Id.{Id}
 use Rattle.rpc_end.specs.Built.{are_built}
 use Rattle.rpc_end.specs.declared.terms.Terms.{Terms}
 
@@ -36,3 +41,7 @@ pub record RpcStands (end : RpcValue) (items : List RpcItem) (at : ℕ) (rest : 
   pub state : end.state ≡ state_of items
   pub allowed : AreAllowed (encoder end.terms.encoding) items
   pub built : are_built items ≡ true
+  -- what was said are messages of the code
+  pub said : AreMessages (all_said items)
+  -- a request of the peer that waits has an id that a value can tell
+  pub named : (id : Id) → is_waiting id items ≡ true → IsNamed id

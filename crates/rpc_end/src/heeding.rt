@@ -1,14 +1,16 @@
 //! What messages are to a running end.
 
-ghost use Rattle.call_table.specs.Table.{heard, settled, settled_in, waits_in};
+ghost use Rattle.call_table.specs.Table.{heard, reported, reported_in, settled, settled_in, waits_in};
+ghost use Rattle.message_body.specs.AsRead.{AreMessages, IsMessage};
 ghost use Rattle.message_body.specs.Written.{encoder};
 ghost use Rattle.rpc_end.specs.Ends.{with_said, with_table};
-ghost use Rattle.rpc_end.specs.Heeding.{HasId, answers_by, broken_by, event_by, extension_event, named_event, named_table, notification_event_by, settled_event, with_heeded};
+ghost use Rattle.rpc_end.specs.Heeding.{HasId, answers_by, broken_by, event_by, extended_by, extension_event, named_event, named_table, notification_event_by, report_event, said_by, settled_event, with_heeded};
 ghost use Rattle.rpc_items.specs.Automatic.{fault};
 ghost use Rattle.rpc_items.specs.Bodies.{body_refusal};
 ghost use Rattle.rpc_items.specs.Fitting.{IsNamed};
 ghost use Rattle.rpc_items.specs.Meanings.{meaning};
 ghost use Rattle.rpc_items.specs.PeerHandles.{is_service};
+ghost use Rattle.rpc_items.specs.Sayable.{HasNamedId};
 ghost use Rattle.rpc_items.specs.Writing.{message_value};
 ghost use Rattle.rpc_items.specs.declared.calls.RpcEvent.TheVariants as events;
 ghost use Rattle.rpc_items.specs.declared.calls.Target.TheVariants as targets;
@@ -69,7 +71,8 @@ impl RpcEnd {
         requires named { HasId message }
         ensures ok { IfOk result (λ event. event ≡ event_by message self.old.table) }
         ensures made { OnOk result (self.new ≡ with_heeded message self.old) }
-        ensures err { OnErr result (self.new ≡ self.old) }
+        ensures said { OnOk result (AreMessages (said_by message)) }
+        ensures err { OnErr result (self.new.terms ≡ self.old.terms) }
     {
         match message {
             Message::Request(id, method, params) => self.heed_request(id, method, params),
@@ -103,28 +106,55 @@ impl RpcEnd {
         }
     }
 
-    fn heed_notification(&self, method: Text, params: Params) -> Result<RpcEvent, OutOfMemory>
-        ensures { IfOk result (λ event. event ≡ notification_event_by (meaning method params) method params self.now.table) }
+    fn heed_notification(&mut self, method: Text, params: Params) -> Result<RpcEvent, OutOfMemory>
+        ensures ok { IfOk result (λ event. event ≡ notification_event_by (meaning method params) method params self.old.table) }
+        ensures made { OnOk result (self.new ≡ with_table (extended_by (meaning method params) self.old.table) self.old) }
+        ensures err { OnErr result (self.new ≡ self.old) }
     {
         match meaning_of(self.alloc, &method, &params)? {
             Meaning::Serves => Ok(RpcEvent::Told(method, params)),
-            meaning => Ok(self.event_of(meaning, method)),
+            meaning => self.extend(meaning, method),
         }
     }
 
-    /// What an extension is to this end: a request that waits may be given up, and nothing is told of the others.
-    fn event_of(&self, meaning: Meaning, method: Text) -> RpcEvent
-        ensures { result ≡ extension_event meaning method self.now.table }
+    /// Does what an extension asks for, and answers what it is to this end: a request that waits may be given up, a report
+    /// may be kept, and nothing is told of the others.
+    fn extend(&mut self, meaning: Meaning, method: Text) -> Result<RpcEvent, OutOfMemory>
+        ensures ok { IfOk result (λ event. event ≡ extension_event meaning method self.old.table) }
+        ensures made { OnOk result (self.new ≡ with_table (extended_by meaning self.old.table) self.old) }
+        ensures err { OnErr result (self.new ≡ self.old) }
     {
         match meaning {
             Meaning::Cancels(id) => {
                 if self.table.waits(&id) {
-                    RpcEvent::Cancelled(id)
+                    Ok(RpcEvent::Cancelled(id))
                 } else {
-                    RpcEvent::Handled(method)
+                    Ok(RpcEvent::Handled(method))
                 }
             }
-            _ => RpcEvent::Handled(method),
+            Meaning::Reports(token, value) => self.keep_report(&token, value, method),
+            _ => Ok(RpcEvent::Handled(method)),
+        }
+    }
+
+    /// Keeps a report, where its token names a request that it is kept for.
+    fn keep_report(
+        &mut self,
+        token: &Id,
+        value: Datum,
+        method: Text,
+    ) -> Result<RpcEvent, OutOfMemory>
+        ensures ok { IfOk result (λ event. event ≡ report_event (reported_in token.now self.old.table) method) }
+        ensures made { OnOk result (self.new ≡ with_table (reported (reported_in token.now self.old.table) value self.old.table) self.old) }
+        ensures err { OnErr result (self.new ≡ self.old) }
+    {
+        let named = self.table.foresee(token);
+        if !self.table.report(token, value)? {
+            return Ok(RpcEvent::Handled(method));
+        }
+        match named {
+            Settled::First(n, _) => Ok(RpcEvent::Reported(n)),
+            Settled::Stray => unreachable!(),
         }
     }
 
@@ -138,13 +168,14 @@ impl RpcEnd {
         requires named { IsNamed id }
         ensures ok { IfOk result (λ event. event ≡ event_by (messages.Request id method params) self.old.table) }
         ensures made { OnOk result (self.new ≡ with_heeded (messages.Request id method params) self.old) }
-        ensures err { OnErr result (self.new ≡ self.old) }
+        ensures said { OnOk result (AreMessages (answers_by id (meaning method params))) }
+        ensures err { OnErr result (self.new.terms ≡ self.old.terms) }
     {
         match meaning_of(self.alloc, &method, &params)? {
             Meaning::Serves => self.hear(id, method, params),
             meaning => {
                 self.answer_at_once(id, &meaning)?;
-                Ok(self.event_of(meaning, method))
+                self.extend(meaning, method)
             }
         }
     }
@@ -167,6 +198,7 @@ impl RpcEnd {
         requires extension { is_service meaning.now ≡ false }
         requires named { IsNamed id }
         ensures made { OnOk result (self.new ≡ with_said (answers_by id meaning.now) self.old) }
+        ensures said { OnOk result (AreMessages (answers_by id meaning.now)) }
         ensures err { OnErr result (self.new ≡ self.old) }
     {
         let answer = answer_to(self.alloc, id, meaning)?;
@@ -177,6 +209,7 @@ impl RpcEnd {
     fn say_message(&mut self, message: &Message) -> Result<(), OutOfMemory>
         requires { body_refusal (encoder self.old.terms.encoding) (message_value message.now) ≡ None }
         ensures made { OnOk result (self.new ≡ with_said (message.now ∷ []) self.old) }
+        ensures message { OnOk result (HasNamedId message.now → IsMessage message.now) }
         ensures err { OnErr result (self.new ≡ self.old) }
     {
         match self.text_of(message) {

@@ -1,37 +1,77 @@
 //! Messages that calls say.
 
-ghost use Rattle.rpc_end.specs.Built.{are_plain, is_plain_answer};
+ghost use Rattle.rpc_end.specs.Built.{are_built_args, is_plain_answer};
+ghost use Rattle.rpc_items.specs.Arguments.{most_drawn};
+ghost use Rattle.rpc_items.specs.Ids.{count_value, id_value, numbered_id};
+ghost use Rattle.rpc_items.specs.Methods.{cancel_request, progress};
 ghost use Rattle.rpc_items.specs.Saying.{params_of, response};
-ghost use Rattle.std.specs.Prelude.{◌≡◌, [], IfOk, true, ℕ};
+ghost use Rattle.std.specs.Prelude.{◌≡◌, ◌≤◌, ◌∷◌, [], codes, IfOk, true, ℕ};
 
-use crate::arguments::params_of;
-use rpc_items::{Answer, Arguments, Message};
+use crate::arguments::{count, params_of};
+use rpc_items::{Answer, Arguments, Message, Params};
+use rpc_methods::{CANCEL_REQUEST, PROGRESS};
 use std::alloc::Global;
-use wire_base::{Id, OutOfMemory, Text};
+use wire_base::{Datum, Id, Node, OutOfMemory, PairList, Text, Whole};
 
-/// A request with plain arguments.
+/// A request with arguments that are values or progress.
 pub fn request(
     alloc: Global,
-    number: i64,
+    number: u64,
     method: &Text,
     args: Arguments,
 ) -> Result<Message, OutOfMemory>
-    requires { are_plain args ≡ true }
-    ensures { IfOk result (λ message. (n handles : ℕ) → message ≡ Message.Request (Id.Number number) method.now (params_of n handles args)) }
+    requires built { are_built_args args ≡ true }
+    requires drawn { number ≤ most_drawn }
+    ensures { IfOk result (λ message. (handles : ℕ) → message ≡ Message.Request (numbered_id number) method.now (params_of number handles args)) }
 {
     let method = method.copy(alloc)?;
-    let params = params_of(alloc, args)?;
-    Ok(Message::Request(Id::Number(number), method, params))
+    let params = params_of(alloc, number, args)?;
+    Ok(Message::Request(Id::Number(number as i64), method, params))
 }
 
-/// A notification with plain arguments.
+/// A notification with arguments that are values, or progress of no request.
 pub fn notification(alloc: Global, method: &Text, args: Arguments) -> Result<Message, OutOfMemory>
-    requires { are_plain args ≡ true }
-    ensures { IfOk result (λ message. (n handles : ℕ) → message ≡ Message.Notification method.now (params_of n handles args)) }
+    requires { are_built_args args ≡ true }
+    ensures { IfOk result (λ message. (handles : ℕ) → message ≡ Message.Notification method.now (params_of 0 handles args)) }
 {
     let method = method.copy(alloc)?;
-    let params = params_of(alloc, args)?;
+    let params = params_of(alloc, 0, args)?;
     Ok(Message::Notification(method, params))
+}
+
+/// A notification that gives a request up.
+pub fn cancellation(alloc: Global, n: u64) -> Result<Message, OutOfMemory>
+    ensures { IfOk result (λ message. message ≡ Message.Notification cancel_request (Params.Named ((codes "id", count_value n) ∷ []))) }
+{
+    let mut members = PairList::new(alloc);
+    members.push((Text::from_str(alloc, "id")?, count(n)))?;
+    let method = Text::from_str(alloc, CANCEL_REQUEST)?;
+    Ok(Message::Notification(method, Params::Named(members)))
+}
+
+/// A notification that reports this by this token.
+pub fn report(alloc: Global, token: &Id, value: &Datum) -> Result<Message, OutOfMemory>
+    ensures { IfOk result (λ message. message ≡ Message.Notification progress (Params.Named ((codes "token", id_value token.now) ∷ (codes "value", value.now) ∷ []))) }
+{
+    let mut members = PairList::new(alloc);
+    members.push((Text::from_str(alloc, "token")?, token_value(alloc, token)?))?;
+    members.push((Text::from_str(alloc, "value")?, value.copy(alloc)?))?;
+    let method = Text::from_str(alloc, PROGRESS)?;
+    Ok(Message::Notification(method, Params::Named(members)))
+}
+
+/// A token as a value.
+fn token_value(alloc: Global, token: &Id) -> Result<Datum, OutOfMemory>
+    ensures { IfOk result (λ value. value ≡ id_value token.now) }
+{
+    match token {
+        Id::Number(n) => Ok(Datum {
+            node: Node::Whole(Whole::from_i64(*n)),
+        }),
+        Id::Name(name) => Ok(Datum {
+            node: Node::Words(name.copy(alloc)?),
+        }),
+    }
 }
 
 /// A response with a value or an error.

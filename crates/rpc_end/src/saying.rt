@@ -1,10 +1,12 @@
 //! Messages that are said.
 
+ghost use Rattle.message_body.specs.AsRead.{IsMessage};
 ghost use Rattle.message_body.specs.Replies.{Writes};
 ghost use Rattle.message_body.specs.Written.{encoder};
 ghost use Rattle.rpc_end.specs.Ends.{with_output};
 ghost use Rattle.rpc_end.specs.Texts.{message_text};
 ghost use Rattle.rpc_items.specs.Bodies.{body_refusal};
+ghost use Rattle.rpc_items.specs.Sayable.{HasNamedId};
 ghost use Rattle.rpc_items.specs.Writing.{message_value};
 ghost use Rattle.std.specs.Prelude.{◌≡◌, ◌++◌, IfOk, OnErr, OnOk};
 
@@ -19,6 +21,7 @@ impl RpcEnd {
     pub(crate) fn text_of(&self, message: &Message) -> Result<Vec<u8>, CallFault>
         ensures ok { IfOk result (λ text. text.items ≡ message_text self.now.terms message.now) }
         ensures answer { Writes (body_refusal (encoder self.now.terms.encoding) (message_value message.now)) result }
+        ensures message { OnOk result (HasNamedId message.now → IsMessage message.now) }
     {
         let mut body = Vec::new(self.alloc);
         write(self.alloc, self.terms.encoding, message, &mut body)?;

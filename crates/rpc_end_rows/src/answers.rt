@@ -23,6 +23,14 @@ pub fn of_call(alloc: Global, answer: Result<(), CallFault>) -> Result<String, F
     }
 }
 
+pub fn of_report(alloc: Global, answer: Result<Option<Datum>, CallFault>) -> Result<String, Fail> {
+    match answer {
+        Ok(Some(value)) => of_value(alloc, &value),
+        Ok(None) => word(alloc, "none"),
+        Err(fault) => of_fault(alloc, fault),
+    }
+}
+
 pub fn of_drawn(alloc: Global, answer: Result<u64, CallFault>) -> Result<String, Fail> {
     match answer {
         Ok(n) => Ok(format!(in alloc; "{n}")?),

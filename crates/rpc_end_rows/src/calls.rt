@@ -41,6 +41,8 @@ fn calls_are_refused(rt: HostRuntime) -> Result<(), Fail> {
         asks x deep126 bytes     | BytesInJson    |
         asks x deep126 2         | TooDeep        |
         tells $/x reserved bytes | ReservedMethod |
+        tells $/x progress bytes | ReservedMethod |
+        tells x progress reserved | NeedsRequest  |
         tells x bytes reserved   | ReservedMember |
         tells x deep126 bytes    | BytesInJson    |
         tells x deep126 2        | TooDeep        |
@@ -124,5 +126,34 @@ fn a_stopped_end_refuses_every_call(rt: HostRuntime) -> Result<(), Fail> {
         outcome 1                                     | starved            |
         ends                                          | ok                 |
         state                                         | Stopped            |"#;
+    a_life(&rt, rt.alloc(), rows)
+}
+
+#[test]
+fn a_request_is_cancelled_once(rt: HostRuntime) -> Result<(), Fail> {
+    let rows = r#"
+        asks work                                 | 1                | {"id":1,"jsonrpc":"2.0","method":"work"}
+        cancels 2                                 | NoRequest        |
+        cancels 1                                 | ok               | {"jsonrpc":"2.0","method":"$/cancelRequest","params":{"id":1}}
+        cancels 1                                 | AlreadyCancelled |
+        outcome 1                                 | not yet          |
+        comes {"id":1,"jsonrpc":"2.0","result":5} | answered 1       |
+        outcome 1                                 | 5                |
+        cancels 1                                 | NoRequest        |"#;
+    a_life(&rt, rt.alloc(), rows)
+}
+
+/// A report is said while the peer's request waits, by whatever token.
+#[test]
+fn reports_are_said(rt: HostRuntime) -> Result<(), Fail> {
+    let rows = r#"
+        reports 7 7 5                                 | NoRequest          |
+        comes {"id":7,"jsonrpc":"2.0","method":"run"} | asked 7 run absent |
+        reports 7 "a" 5                               | ok                 | {"jsonrpc":"2.0","method":"$/progress","params":{"token":"a","value":5}}
+        reports 7 7 bytes                             | BytesInJson        |
+        answers 7 5                                   | ok                 | {"id":7,"jsonrpc":"2.0","result":5}
+        reports 7 7 5                                 | NoRequest          |
+        ends                                          | ok                 |
+        reports 7 7 5                                 | Ended(InputEnded)  |"#;
     a_life(&rt, rt.alloc(), rows)
 }

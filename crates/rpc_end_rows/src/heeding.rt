@@ -1,4 +1,4 @@
-//! What the extensions are to an end without objects, sequences and reports.
+//! What the extensions are to an end without objects and sequences.
 
 use crate::rows::a_life;
 use std::test::Fail;
@@ -31,6 +31,29 @@ fn notifications_are_not_answered(rt: HostRuntime) -> Result<(), Fail> {
     a_life(&rt, rt.alloc(), rows)
 }
 
+/// With other arguments, named or positional, a request is answered that they are bad, and a notification has no effect.
+#[test]
+fn other_arguments_have_no_effect(rt: HostRuntime) -> Result<(), Fail> {
+    let asked = r#"
+        asks work progress 2                                                                 | 1                       | {"id":1,"jsonrpc":"2.0","method":"work","params":[1,2]}
+        comes {"id":5,"jsonrpc":"2.0","method":"run"}                                        | asked 5 run absent      |
+        comes {"id":6,"jsonrpc":"2.0","method":"$/cancelRequest","params":{"token":5}}       | handled $/cancelRequest | {"error":{"code":-32602,"message":"bad arguments"},"id":6,"jsonrpc":"2.0"}
+        comes {"id":7,"jsonrpc":"2.0","method":"$/cancelRequest","params":[5,5]}             | handled $/cancelRequest | {"error":{"code":-32602,"message":"bad arguments"},"id":7,"jsonrpc":"2.0"}
+        comes {"id":8,"jsonrpc":"2.0","method":"$/progress","params":{"token":1}}            | handled $/progress      | {"error":{"code":-32602,"message":"bad arguments"},"id":8,"jsonrpc":"2.0"}
+        comes {"id":9,"jsonrpc":"2.0","method":"$/progress","params":[1]}                    | handled $/progress      | {"error":{"code":-32602,"message":"bad arguments"},"id":9,"jsonrpc":"2.0"}"#;
+    let told = r#"
+        asks work progress 2                                                                 | 1                       | {"id":1,"jsonrpc":"2.0","method":"work","params":[1,2]}
+        comes {"id":5,"jsonrpc":"2.0","method":"run"}                                        | asked 5 run absent      |
+        comes {"jsonrpc":"2.0","method":"$/cancelRequest","params":{"id":null}}              | handled $/cancelRequest |
+        comes {"jsonrpc":"2.0","method":"$/cancelRequest","params":[5,5]}                    | handled $/cancelRequest |
+        comes {"jsonrpc":"2.0","method":"$/progress","params":{"value":3}}                   | handled $/progress      |
+        comes {"jsonrpc":"2.0","method":"$/progress","params":[1,2,3]}                       | handled $/progress      |
+        takes 1                                                                              | none                    |
+        answers 5 2                                                                          | ok                      | {"id":5,"jsonrpc":"2.0","result":2}"#;
+    a_life(&rt, rt.alloc(), asked)?;
+    a_life(&rt, rt.alloc(), told)
+}
+
 /// A cancellation is told where its request waits, and the request goes on to wait for its answer.
 #[test]
 fn a_cancelled_request_waits_on(rt: HostRuntime) -> Result<(), Fail> {
@@ -53,5 +76,29 @@ fn a_cancellation_completes_no_own_request(rt: HostRuntime) -> Result<(), Fail> 
         asks work                                                            | 1                       | {"id":1,"jsonrpc":"2.0","method":"work"}
         comes {"jsonrpc":"2.0","method":"$/cancelRequest","params":{"id":1}} | handled $/cancelRequest |
         outcome 1                                                            | not yet                 |"#;
+    a_life(&rt, rt.alloc(), rows)
+}
+
+/// A report is told where its request asked for reports and waits for its response.
+#[test]
+fn reports_are_kept(rt: HostRuntime) -> Result<(), Fail> {
+    let rows = r#"
+        asks work progress 2                                                                | 1                  | {"id":1,"jsonrpc":"2.0","method":"work","params":[1,2]}
+        asks work 2 3                                                                       | 2                  | {"id":2,"jsonrpc":"2.0","method":"work","params":[2,3]}
+        comes {"jsonrpc":"2.0","method":"$/progress","params":{"token":1,"value":5}}        | reported 1         |
+        comes {"id":7,"jsonrpc":"2.0","method":"$/progress","params":{"token":1,"value":6}} | reported 1         | {"id":7,"jsonrpc":"2.0","result":null}
+        comes {"jsonrpc":"2.0","method":"$/progress","params":[2,5]}                        | handled $/progress |
+        comes {"jsonrpc":"2.0","method":"$/progress","params":["1",5]}                      | handled $/progress |
+        comes {"jsonrpc":"2.0","method":"$/progress","params":[3,5]}                        | handled $/progress |
+        takes 1                                                                             | 5                  |
+        takes 2                                                                             | NoToken            |
+        takes 3                                                                             | NoRequest          |
+        comes {"id":1,"jsonrpc":"2.0","result":9}                                           | answered 1         |
+        comes {"jsonrpc":"2.0","method":"$/progress","params":{"token":1,"value":7}}        | handled $/progress |
+        ends                                                                                | ok                 |
+        takes 1                                                                             | 6                  |
+        takes 1                                                                             | none               |
+        forgets 1                                                                           | ok                 |
+        takes 1                                                                             | NoRequest          |"#;
     a_life(&rt, rt.alloc(), rows)
 }

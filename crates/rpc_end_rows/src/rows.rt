@@ -1,6 +1,6 @@
 //! Rows of text, and the end that lives through them.
 
-use crate::answers::{of_call, of_drawn, of_look, of_state, of_step, word};
+use crate::answers::{of_call, of_drawn, of_look, of_report, of_state, of_step, word};
 use crate::values::{call_of, id_of, number, value};
 use rpc_end::{Answer, Encoding, Expect, Framing, RpcEnd};
 use std::alloc::Global;
@@ -66,6 +66,23 @@ fn fails(alloc: Global, end: &mut RpcEnd, words: &str) -> Result<String, Fail> {
     of_call(alloc, end.respond(&id_of(alloc, id)?, answer))
 }
 
+fn cancels(alloc: Global, end: &mut RpcEnd, n: u64) -> Result<String, Fail> {
+    of_call(alloc, end.cancel(n))
+}
+
+/// The words are the id of a request, a token and a value.
+fn reports(alloc: Global, end: &mut RpcEnd, words: &str) -> Result<String, Fail> {
+    let (id, words) = words.split_once(' ').unwrap_or((words, ""));
+    let (token, word) = words.split_once(' ').unwrap_or((words, ""));
+    let (id, token) = (id_of(alloc, id)?, id_of(alloc, token)?);
+    let value = value(alloc, word)?;
+    of_call(alloc, end.report(&id, &token, &value))
+}
+
+fn takes(alloc: Global, end: &mut RpcEnd, n: u64) -> Result<String, Fail> {
+    of_report(alloc, end.take_report(n))
+}
+
 fn forgets(alloc: Global, end: &mut RpcEnd, n: u64) -> Result<String, Fail> {
     of_call(alloc, end.forget(n))
 }
@@ -92,7 +109,7 @@ fn ends(end: &mut RpcEnd) {
 }
 
 fn stops(end: &mut RpcEnd) {
-    end.stop();
+    end.starve();
 }
 
 pub fn outcome(alloc: Global, end: &RpcEnd, n: u64) -> Result<String, Fail> {
@@ -118,12 +135,9 @@ fn looks(alloc: Global, end: &RpcEnd, name: &str, words: &str) -> Result<String,
     }
 }
 
-/// What arrives at the end, or befalls it.
+/// What befalls the end.
 fn befalls(alloc: Global, end: &mut RpcEnd, name: &str, words: &str) -> Result<String, Fail> {
-    let framing = end.terms.framing;
     match name {
-        "feeds" => feeds(alloc, end, &framed(alloc, framing, words)?),
-        "comes" => comes(alloc, end, &framed(alloc, framing, words)?),
         "steps" => steps(alloc, end),
         "ends" => {
             ends(end);
@@ -146,8 +160,20 @@ pub fn happens(alloc: Global, end: &mut RpcEnd, call: &str) -> Result<String, Fa
         "tells" => tells(alloc, end, words),
         "answers" => answers(alloc, end, words),
         "fails" => fails(alloc, end, words),
+        "cancels" => cancels(alloc, end, number(words).unsigned_abs()),
+        "reports" => reports(alloc, end, words),
+        "takes" => takes(alloc, end, number(words).unsigned_abs()),
         "forgets" => forgets(alloc, end, number(words).unsigned_abs()),
         _ => befalls(alloc, end, name, words),
+    }
+}
+
+/// What this call answers, or the arrival of these bodies.
+fn arrives(alloc: Global, framing: Framing, end: &mut RpcEnd, call: &str) -> Result<String, Fail> {
+    match call.split_once(' ') {
+        Some(("feeds", bodies)) => feeds(alloc, end, &framed(alloc, framing, bodies)?),
+        Some(("comes", bodies)) => comes(alloc, end, &framed(alloc, framing, bodies)?),
+        _ => happens(alloc, end, call),
     }
 }
 
@@ -163,28 +189,31 @@ pub fn is_told(rt: &impl Abort, told: &str, wanted: &str) {
 }
 
 /// A row is a call, its answer, and the bodies that are sent then, between bars.
-fn lives_once(rt: &impl Abort, alloc: Global, end: &mut RpcEnd, row: &str) -> Result<(), Fail> {
+fn lives_once(
+    rt: &impl Abort,
+    alloc: Global,
+    framing: Framing,
+    end: &mut RpcEnd,
+    row: &str,
+) -> Result<(), Fail> {
     let (call, wanted) = row.split_once('|').unwrap_or((row, ""));
     let (wanted, bodies) = wanted.split_once('|').unwrap_or((wanted, ""));
-    let answer = happens(alloc, end, call.trim())?;
+    let answer = arrives(alloc, framing, end, call.trim())?;
     assert_eq!(rt; answer.as_str(), wanted.trim(), "at {row}");
-    let bodies = framed(alloc, end.terms.framing, bodies)?;
+    let bodies = framed(alloc, framing, bodies)?;
     assert_eq!(rt; sent(alloc, end)?, bodies, "at {row}");
-    Ok(())
-}
-
-pub fn lives(rt: &impl Abort, alloc: Global, end: &mut RpcEnd, rows: &str) -> Result<(), Fail> {
-    for row in rows.lines() {
-        if !row.trim().is_empty() {
-            lives_once(rt, alloc, end, row)?;
-        }
-    }
     Ok(())
 }
 
 /// An end that writes and reads JSON lives through the rows.
 pub fn a_life_in(rt: &impl Abort, alloc: Global, framing: Framing, rows: &str) -> Result<(), Fail> {
-    lives(rt, alloc, &mut start(alloc, framing, Encoding::Json), rows)
+    let mut end = start(alloc, framing, Encoding::Json);
+    for row in rows.lines() {
+        if !row.trim().is_empty() {
+            lives_once(rt, alloc, framing, &mut end, row)?;
+        }
+    }
+    Ok(())
 }
 
 /// The heads of the bodies are four-byte lengths.

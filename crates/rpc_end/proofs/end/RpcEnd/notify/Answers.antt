@@ -1,7 +1,7 @@
 use Rattle.std.proofs.Common.{[], refl}
 use Rattle.rpc_items.specs.Items.{Did, Tell}
 use Rattle.rpc_items.specs.Saying.{said}
-use Rattle.rpc_end.specs.Calls.{plain_refusal}
+use Rattle.rpc_end.specs.Calls.{told_refusal}
 use Rattle.rpc_end.proofs.Answering.{call_answers, calls_terms, tell_early, tell_says, tell_stands}
 use Rattle.rpc_end.proofs.end.RpcEnd.notify.Goals as goal
 
@@ -11,12 +11,12 @@ returns-clause-answers c = λ items at rest s.
     let method = c.args.method.now in
     let args = c.args.args in
     let messages = said (Did (Tell method args)) [] in
-    call_answers old c.tell-told.new.self old.table (Tell method args) items at rest tt (λ _. Unit {0}) c.finish.new.self (plain_refusal method args) messages c.tell-told.result c.finish.result
-    s c.in_ok-check_running.ensures refl c.requires (tell_early method args items c.requires s.built) (tell_says method args items s.built) refl
-    (tell_stands old c.tell-told.new.self (plain_refusal method args) messages tt c.tell-told.result method args items s.table c.tell-told.ensures) tt
-    c.tell-told.ensures c.finish.ensures.answer c.finish.ensures.state
+    call_answers old c.tell-told.new.self old.table (Tell method args) items at rest tt (λ _. Unit {0}) c.finish.new.self (told_refusal method args) messages c.tell-told.result c.finish.result
+    s c.in_ok-check_running.ensures refl c.requires (tell_early method args items c.requires s.built) (tell_says method args items s.built) refl c.tell-told.ensures.said
+    (tell_stands old c.tell-told.new.self (told_refusal method args) messages tt c.tell-told.result method args items s.table c.tell-told.ensures.calls) tt
+    c.tell-told.ensures.calls c.finish.ensures.answer c.finish.ensures.state
 
 pub returns-clause-terms : goal.returns-clause-terms
 returns-clause-terms c =
     let old = c.args.self.now in
-    calls_terms old c.tell-told.new.self c.finish.new.self (plain_refusal c.args.method.now c.args.args) (said (Did (Tell c.args.method.now c.args.args)) []) old.table tt c.tell-told.result c.tell-told.ensures c.finish.ensures.state
+    calls_terms old c.tell-told.new.self c.finish.new.self (told_refusal c.args.method.now c.args.args) (said (Did (Tell c.args.method.now c.args.args)) []) old.table tt c.tell-told.result c.tell-told.ensures.calls c.finish.ensures.state

@@ -1,8 +1,8 @@
-use Rattle.std.proofs.Common.{◌≡◌, ◌+◌, [], length, false, ap, refl}
+use Rattle.std.proofs.Common.{◌≡◌, ◌+◌, [], length, ap, refl}
 use Rattle.call_table.specs.Replies.{full_refusal}
 use Rattle.call_table.specs.Table.{begun}
 use Rattle.rpc_items.specs.Bodies.{or_else}
-use Rattle.rpc_items.specs.Drawn.{drawn}
+use Rattle.rpc_items.specs.Drawn.{arg_list, drawn, has_progress_arg}
 use Rattle.rpc_items.specs.Items.{Ask}
 use Rattle.rpc_items.specs.Saying.{asks_next}
 use Rattle.rpc_end.specs.Built.{is_plain}
@@ -16,15 +16,16 @@ returns-clause-answers c = λ items at rest s.
     let method = c.args.method.now in
     let args = c.args.args in
     let expect = c.args.expect in
-    let plain = c.requires.plain in
-    call_answers old c.ask-asked.new.self (begun expect false old.table) (Ask method args expect) items at rest (length old.table.requests + 1) (λ n. n ≡ drawn items + 1) c.finish.new.self
-    (or_else (plain_refusal method args) (full_refusal old.table)) (asks_next (length old.table.requests + 1) method args []) c.ask-asked.result c.finish.result s c.in_ok-check_running.ensures refl (rw plain (ap is_plain c.requires.value))
-    (ask_early method args expect old.table items plain s.built s.table) (ask_says method args old.table items s.built s.table) refl
-    (ask_stands c.ask-asked.result method args expect c.ask-asked.new.self.table items plain (c.ask-asked.ensures.stands items s.table)) (ap (λ n. n + 1) s.table.count)
+    let progress = has_progress_arg (arg_list args) in
+    let built = c.requires.built in
+    call_answers old c.ask-asked.new.self (begun expect progress old.table) (Ask method args expect) items at rest (length old.table.requests + 1) (λ n. n ≡ drawn items + 1) c.finish.new.self
+    (or_else (plain_refusal method args) (full_refusal old.table)) (asks_next (length old.table.requests + 1) method args []) c.ask-asked.result c.finish.result s c.in_ok-check_running.ensures refl (rw built (ap is_plain c.requires.value))
+    (ask_early method args expect old.table items built s.built s.table) (ask_says method args old.table items s.built s.table) refl c.ask-asked.ensures.said
+    (ask_stands c.ask-asked.result method args expect c.ask-asked.new.self.table items (c.ask-asked.ensures.stands items s.table)) (ap (λ n. n + 1) s.table.count)
     c.ask-asked.ensures.calls c.finish.ensures.answer c.finish.ensures.state
 
 pub returns-clause-terms : goal.returns-clause-terms
 returns-clause-terms c =
     let old = c.args.self.now in
-    calls_terms old c.ask-asked.new.self c.finish.new.self (or_else (plain_refusal c.args.method.now c.args.args) (full_refusal old.table)) (asks_next (length old.table.requests + 1) c.args.method.now c.args.args []) (begun c.args.expect false old.table)
+    calls_terms old c.ask-asked.new.self c.finish.new.self (or_else (plain_refusal c.args.method.now c.args.args) (full_refusal old.table)) (asks_next (length old.table.requests + 1) c.args.method.now c.args.args []) (begun c.args.expect (has_progress_arg (arg_list c.args.args)) old.table)
     (length old.table.requests + 1) c.ask-asked.result c.ask-asked.ensures.calls c.finish.ensures.state
