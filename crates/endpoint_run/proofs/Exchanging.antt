@@ -33,11 +33,12 @@ use Rattle.endpoint_items.proofs.Joining.{reads}
 use Rattle.endpoint_items.proofs.Sound.{answered_once}
 use Rattle.endpoint_items.proofs.Speaking.{spoken}
 use Rattle.endpoint_items.proofs.Writable.{said_writable}
-use Rattle.endpoint_run.specs.Run.{EndStep}
-use Rattle.endpoint_run.specs.Moments.{at_moment}
-use Rattle.endpoint_run.specs.Exchange.{IsShared, TakesFront, TakesInOrder, AnswersOnce, AnswersEachOnce, IsExchangeRun}
+use Rattle.endpoint_run.specs.Run.{EndStep, end_run}
+use Rattle.endpoint_run.specs.Moments.{Moment, at_moment}
+use Rattle.endpoint_run.specs.Exchange.{IsShared, TakesFront, TakesInOrder, AnswersOnce, AnswersEachOnce, IsExchangeIn, IsExchangeRun, SaysMessages, SayMessages}
 use Rattle.endpoint_run.proofs.Allowing.{run_keeps}
 use Rattle.endpoint_run.proofs.Asked.{asks_once}
+use Rattle.endpoint_run.proofs.Earlier.{moment_grown, said_before}
 use Rattle.endpoint_run.proofs.Safety.{run_safe}
 
 -- ---- what was read is a front of what was written
@@ -123,19 +124,25 @@ answers_once v c x y a front = record {
 
 -- ---- runs
 
-in_order : (v : Version) (x y : List EndItem) → AreAllowed v x → AreAllowed v y → ((c : ChannelKey) → HasPrefixProperty v c (mux_of v x) (mux_of v y)) → TakesInOrder v x y
-in_order v x y a b p c shared are = takes_front v c x y a b (p c) shared are
+in_order : (v : Version) (x y : List EndItem) → AreAllowed v x → AreAllowed v y → SaysMessages v y → ((c : ChannelKey) → HasPrefixProperty v c (mux_of v x) (mux_of v y)) → TakesInOrder v x y
+in_order v x y a b says p c shared = takes_front v c x y a b (p c) shared (says (other_key c))
 
 each_once : (v : Version) (x y : List EndItem) → AreAllowed v x → TakesInOrder v x y → AnswersEachOnce v x y
-each_once v x y a takes c shared are = answers_once v c x y a (takes c shared are)
+each_once v x y a takes c shared = answers_once v c x y a (takes c shared)
 
-pub run_exchanges : (terms : Terms) (steps : List EndStep) → IsExchangeRun terms steps
-run_exchanges terms steps moment =
+-- at a moment at which all that was said are messages
+pub moment_exchanges : (terms : Terms) (steps : List EndStep) (moment : Moment) → SayMessages terms (at_moment terms steps moment) → IsExchangeIn terms (at_moment terms steps moment)
+moment_exchanges terms steps moment say =
     let v = terms.version in
     let a = (at_moment terms steps moment).a.items in
     let b = (at_moment terms steps moment).b.items in
     let allowed = run_keeps terms steps moment in
     let safe = (run_safe terms steps moment).mux in
-    let to_a : TakesInOrder v a b = in_order v a b allowed.a allowed.b (λ c. (safe.to_a c).prefix_property) in
-    let to_b : TakesInOrder v b a = in_order v b a allowed.b allowed.a (λ c. (safe.to_b c).prefix_property) in
+    let to_a : TakesInOrder v a b = in_order v a b allowed.a allowed.b say.b (λ c. (safe.to_a c).prefix_property) in
+    let to_b : TakesInOrder v b a = in_order v b a allowed.b allowed.a say.a (λ c. (safe.to_b c).prefix_property) in
     record { to_a = to_a; to_b = to_b; answers_a = each_once v a b allowed.a to_a; answers_b = each_once v b a allowed.b to_b }
+
+-- then all that was said before are messages, too
+pub run_exchanges : (terms : Terms) (steps : List EndStep) → SayMessages terms (end_run terms steps) → IsExchangeRun terms steps
+run_exchanges terms steps say first moment is =
+    moment_exchanges terms first moment (said_before terms (at_moment terms first moment) (end_run terms steps) (moment_grown terms steps first moment is) say)

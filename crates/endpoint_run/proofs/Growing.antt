@@ -75,7 +75,7 @@ side_newer w turns s x y =
 same_grown : (w : EndWorld) → HasGrown w w
 same_grown w = record { a = newer_same w.a.items; b = newer_same w.b.items }
 
-more_grown : (u v w : EndWorld) → HasGrown u v → HasGrown v w → HasGrown u w
+pub more_grown : (u v w : EndWorld) → HasGrown u v → HasGrown v w → HasGrown u w
 more_grown u v w p q = record { a = newer_more u.a.items v.a.items w.a.items p.a q.a; b = newer_more u.b.items v.b.items w.b.items p.b q.b }
 
 step_grown_at : (terms : Terms) (turns : ℕ) (side : Side) (s : EndStep) (w : EndWorld) → HasGrown w (in_step_at terms turns side s w)
@@ -108,7 +108,7 @@ run_from_grown terms w (s ∷ steps) =
     let next = happens terms s w in
     more_grown w next (run_from terms next steps) (happens_grown terms (side_of s) s w) (run_from_grown terms next steps)
 
-run_from-append : (terms : Terms) (w : EndWorld) (steps more : List EndStep) → run_from terms w (steps ++ more) ≡ run_from terms (run_from terms w steps) more
+pub run_from-append : (terms : Terms) (w : EndWorld) (steps more : List EndStep) → run_from terms w (steps ++ more) ≡ run_from terms (run_from terms w steps) more
 run_from-append terms w [] more = refl
 run_from-append terms w (s ∷ steps) more = run_from-append terms (happens terms s w) steps more
 

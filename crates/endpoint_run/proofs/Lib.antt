@@ -21,6 +21,7 @@ pub mod Settled
 pub mod Midway
 pub mod Quiet
 pub mod Asked
+pub mod Earlier
 pub mod Exchanging
 pub mod Telling
 mod Worked

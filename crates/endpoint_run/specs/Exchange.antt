@@ -14,8 +14,8 @@ use Rattle.endpoint_items.specs.Exchange.{said_on, got_on}
 use Rattle.endpoint_items.specs.Joined.{read_first}
 use Rattle.endpoint_items.specs.Layers.{rpc_of}
 use Rattle.endpoint_items.specs.Spoken.{written_first}
-use Rattle.endpoint_run.specs.Run.{EndStep}
-use Rattle.endpoint_run.specs.Moments.{Moment, at_moment}
+use Rattle.endpoint_run.specs.Run.{EndWorld, EndStep}
+use Rattle.endpoint_run.specs.Moments.{Moment, IsInRun, at_moment}
 
 -- on the channel that x names c both sides attached a connection, in the same terms; and before that nothing was written
 -- there by y nor read by x
@@ -30,18 +30,18 @@ pub record IsShared (v : Version) (c : ChannelKey) (x y : List EndItem) : Type 0
 abbrev pub TakesFront : Version → ChannelKey → (x y : List EndItem) → Type 0
 TakesFront v c x y = (later : List Message) × (got_on v c x ++ later ≡ map (as_read (terms_of c x).encoding) (said_on v (other_key c) y))
 
--- on each such channel, where what y said are messages of the code
+-- so it is on each channel that they share so
 abbrev pub TakesInOrder : Version → (x y : List EndItem) → Type 0
-TakesInOrder v x y = (c : ChannelKey) → IsShared v c x y → AreMessages (said_on v (other_key c) y) → TakesFront v c x y
+TakesInOrder v x y = (c : ChannelKey) → IsShared v c x y → TakesFront v c x y
 
 -- what x answers there are requests that y said, and each of them once at most
 pub record AnswersOnce (v : Version) (c : ChannelKey) (x y : List EndItem) : Type 0 where
   pub asked : (id : Id) → responses id (said_on v c x) ≤ requests id (said_on v (other_key c) y)
   pub once : (id : Id) → responses id (said_on v c x) ≤ 1
 
--- on each such channel, where what y said are messages of the code
+-- so it is on each channel that they share so
 abbrev pub AnswersEachOnce : Version → (x y : List EndItem) → Type 0
-AnswersEachOnce v x y = (c : ChannelKey) → IsShared v c x y → AreMessages (said_on v (other_key c) y) → AnswersOnce v c x y
+AnswersEachOnce v x y = (c : ChannelKey) → IsShared v c x y → AnswersOnce v c x y
 
 -- both sides take messages in order, and answer requests once
 pub record IsExchange (v : Version) (a b : List EndItem) : Type 0 where
@@ -50,6 +50,19 @@ pub record IsExchange (v : Version) (a b : List EndItem) : Type 0 where
   pub answers_a : AnswersEachOnce v a b
   pub answers_b : AnswersEachOnce v b a
 
--- so it is at each moment after these steps
+-- so it is between two sides of a world
+abbrev pub IsExchangeIn : Terms → EndWorld → Type 0
+IsExchangeIn terms w = IsExchange terms.version w.a.items w.b.items
+
+-- at each moment of the run of these steps
 abbrev pub IsExchangeRun : Terms → List EndStep → Type 0
-IsExchangeRun terms steps = (moment : Moment) → IsExchange terms.version (at_moment terms steps moment).a.items (at_moment terms steps moment).b.items
+IsExchangeRun terms steps = (first : List EndStep) (moment : Moment) → IsInRun steps first moment → IsExchangeIn terms (at_moment terms first moment)
+
+-- what a side said on each of its channels are messages of the code
+abbrev pub SaysMessages : Version → List EndItem → Type 0
+SaysMessages v items = (c : ChannelKey) → AreMessages (said_on v c items)
+
+-- so it is at both sides
+pub record SayMessages (terms : Terms) (w : EndWorld) : Type 0 where
+  pub a : SaysMessages terms.version w.a.items
+  pub b : SaysMessages terms.version w.b.items

@@ -14,13 +14,13 @@ ghost use Rattle.endpoint_run.specs.Run.{EndSide, EndStep, EndWorld, side_of, in
 ghost use Rattle.endpoint_run.specs.Answers.{TellsOfNew, made_step, run, world_by};
 ghost use Rattle.endpoint_run.specs.declared.steps.Step.{Step};
 ghost use Rattle.endpoint_run.specs.declared.steps.Step.TheVariants as step;
-ghost use Rattle.endpoint_run.specs.Moments.{HasGrown};
+ghost use Rattle.endpoint_run.specs.Moments.{HasGrown, Moment, at_moment};
 ghost use Rattle.endpoint_run.specs.Finer.{IsFinerRun};
 ghost use Rattle.endpoint_run.specs.Safe.{IsSafeRun, KeepsRulesRun};
 ghost use Rattle.endpoint_run.specs.Settled.{IsSettled, TakesTurnsEnough, IsWithinRun};
 ghost use Rattle.endpoint_run.specs.Quiet.{DeliversAll};
 ghost use Rattle.endpoint_run.specs.Midway.{all_applied, IsMidway, GoesOn, BeginsMidway};
-ghost use Rattle.endpoint_run.specs.Exchange.{IsExchangeRun};
+ghost use Rattle.endpoint_run.specs.Exchange.{IsExchangeIn, IsExchangeRun, SayMessages};
 
 /// At each moment of every run the multiplexing ends are those of a run of finer steps.
 pub fn every_run_is_a_finer_run()
@@ -82,9 +82,11 @@ pub fn quiet_runs_deliver_all()
     ensures { (terms : Terms) (steps : List EndStep) → DeliversAll terms steps }
 {}
 
-/// At each moment of every run, on each channel that two connections share from its first byte, in the same terms, the
-/// messages that one side took are the first that the other said, in order and each as it is read, and each request is
-/// answered once at most.
+/// Where all that both sides said are messages of the code: on each channel that two connections share from its first byte,
+/// in the same terms, the messages that one side took are the first that the other said, in order and each as it is read,
+/// and each request is answered once at most. So at a moment of any run; and if they are at the end of a run, at each of its
+/// moments.
 pub fn every_run_exchanges_messages()
-    ensures { (terms : Terms) (steps : List EndStep) → IsExchangeRun terms steps }
+    ensures moment { (terms : Terms) (steps : List EndStep) (moment : Moment) → SayMessages terms (at_moment terms steps moment) → IsExchangeIn terms (at_moment terms steps moment) }
+    ensures run { (terms : Terms) (steps : List EndStep) → SayMessages terms (end_run terms steps) → IsExchangeRun terms steps }
 {}
