@@ -8,6 +8,7 @@ pub mod Ranging
 pub mod Standing
 pub mod Arriving
 pub mod Worlds
+pub mod Starting
 pub mod Delivering
 pub mod Calls
 pub mod Answering

@@ -4,21 +4,29 @@ use Rattle.std.proofs.Common.{◌≡◌, ℕ, ◌+◌, ◌-◌, ◌≤◌, List,
 use Rattle.std.proofs.lemmas.List.{drop-append-le, drop-drop, drop_at}
 use Rattle.wire_base.specs.declared.out_of_memory.OutOfMemory.{OutOfMemory}
 use Rattle.wire_base.specs.declared.state.Cause.TheVariants as cause
+use Rattle.message_body.specs.AsRead.{AreMessages}
 use Rattle.mux_items.specs.Bodies.{frame_texts}
 use Rattle.mux_items.specs.Items.{End}
 use Rattle.mux_run.specs.declared.steps.Side.{Side}
 use Rattle.mux_run.specs.declared.steps.Side.TheVariants.{A, B}
-use Rattle.mux_run.specs.Run.{SideTerms, Terms, terms_at_a, terms_at_b, turned, out, added, is_spent}
+use Rattle.mux_run.specs.Run.{RunSide, SideTerms, Terms, terms_at_a, terms_at_b, turned, out, added, is_spent}
 use Rattle.mux_run.proofs.Growing.{out-more}
+use Rattle.rpc_items.specs.Saying.{all_said}
+use Rattle.rpc_end.specs.declared.terms.Terms as connection
+use Rattle.rpc_end.specs.Stands.{RpcValue}
 use Rattle.endpoint_items.specs.Asked.{made_by}
+use Rattle.endpoint_items.specs.Bytes.{consumed, rest_of}
 use Rattle.endpoint_items.specs.Calls.{EndCall}
-use Rattle.endpoint_items.specs.Items.{Mux}
-use Rattle.endpoint_items.specs.Layers.{mux_of}
-use Rattle.endpoint.specs.Value.{EndpointValue}
+use Rattle.endpoint_items.specs.Connections.{Connection, items_of}
+use Rattle.endpoint_items.specs.Items.{Mux, terms_of}
+use Rattle.endpoint_items.specs.Layers.{mux_of, rpc_of}
+use Rattle.endpoint.specs.Stands.{ConnectionStands}
+use Rattle.endpoint.specs.Value.{EndpointValue, connection_at}
 use Rattle.endpoint_run.specs.declared.answers.DuoAnswer.{DuoAnswer}
 use Rattle.endpoint_run.specs.declared.steps.Step.{Step}
 use Rattle.endpoint_run.specs.declared.steps.Step.TheVariants as step
 use Rattle.endpoint_run.specs.Answers.{answer, answer_on, called_step, made_step, made_steps, side_of, side_by, world_by, run}
+use Rattle.endpoint_run.specs.Exchange.{SaysMessages}
 use Rattle.endpoint_run.specs.Moments.{IsNewer}
 use Rattle.endpoint_run.specs.Run.{EndSide, EndWorld, EndStep, Calls, Delivers, Ends, mux_side, runs, with_item, begun, turns_of}
 use Rattle.endpoint_run.proofs.Emitted.{frames_grow}
@@ -132,9 +140,27 @@ emits_on : (terms : Terms) (made : Option EndStep) (side : Side) (a a' b b' : En
 emits_on terms made A a a' b b' w h h' = emits (terms_at_a terms) a a' b b' w.a (side_by (terms_at_a terms) made w.a w.b) w.b (step_adds (terms_at_a terms) made w.a w.b) h.at_own h.at_peer h'.at_own h'.at_peer
 emits_on terms made B a a' b b' w h h' = emits (terms_at_b terms) b b' a a' w.b (side_by (terms_at_b terms) made w.b w.a) w.a (step_adds (terms_at_b terms) made w.b w.a) h.at_peer h.at_own h'.at_peer h'.at_own
 
--- what holds of every run
-pub run_holds : (terms : Terms) (steps : List Step) → RunHolds terms steps
-run_holds terms steps = record { safe = run_safe terms (made_steps steps); exchange = run_exchanges terms (made_steps steps); settled = run_settled terms (made_steps steps) }
+-- what an end said are messages of the code
+
+connection_says : (end : Option RpcValue) (x : Connection) (terms : connection.Terms) (at : ℕ) (rest : List ℕ) → ConnectionStands end x terms at rest → AreMessages (all_said (items_of x))
+connection_says (Some end) (Some items) terms at rest h = h.stands.said
+connection_says None None terms at rest h = tt
+connection_says (Some end) None terms at rest h = tt
+connection_says None (Some items) terms at rest h = absurd h
+
+side_says : (w : SideTerms) (end : EndpointValue) (x : EndSide) (y : RunSide) → StandsForSide w end x y → SaysMessages w.version x.items
+side_says w end x y h =
+    subst (λ v. SaysMessages v x.items) h.version
+    (λ c. let v = end.mux.version in connection_says (connection_at c end.connections) (rpc_of v c x.items) (terms_of c x.items) (consumed c x.items) (rest_of v c x.items) (h.stands.connections c))
+
+-- what holds of a run for which both ends stand
+pub run_holds : (terms : Terms) (steps : List Step) (a b : EndpointValue) → StandForWorld terms a b (run terms steps) → RunHolds terms steps
+run_holds terms steps a b h =
+    let w = run terms steps in
+    let v = terms.version in
+    let says_a : SaysMessages v w.a.items = side_says (terms_at_a terms) a w.a (mux_side v w.b) h.at_own in
+    let says_b : SaysMessages v w.b.items = side_says (terms_at_b terms) b w.b (mux_side v w.a) h.at_peer in
+    record { safe = run_safe terms (made_steps steps); exchange = run_exchanges terms (made_steps steps) (record { a = says_a; b = says_b }); settled = run_settled terms (made_steps steps) }
 
 -- one more step
 
@@ -152,7 +178,7 @@ stepped d d' s reply h terms steps works made =
         terms_are = terms;
         works = works;
         stands = stands;
-        run_holds = run_holds d'.terms d'.steps;
+        run_holds = run_holds d'.terms d'.steps d'.a d'.b stands;
         emits = subst (λ w'. EmitsOn (side_of s) d.terms w w' d.a d'.a d.b d'.b) (sym at) (emits_on d.terms (made_step s) (side_of s) d.a d'.a d.b d'.b w h.stands stand);
       },
       record { nonces = subst (λ t. HaveNonces (terms_at_a t)) (sym terms) h.nonces; stands = stands },

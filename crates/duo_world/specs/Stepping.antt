@@ -62,8 +62,8 @@ abbrev pub EmitsOn : Side → Terms → (w w' : EndWorld) → (a a' b b' : Endpo
 EmitsOn A terms w w' a a' b b' = Emits (terms_at_a terms) w.a w'.a a a' b b'
 EmitsOn B terms w w' a a' b b' = Emits (terms_at_b terms) w.b w'.b b b' a a'
 
--- what holds of the run of the steps that a Duo made: it is safe and keeps its credit at every moment, connections exchange
--- messages in order, and nothing whole is left to either end
+-- what holds of the run of the steps that a Duo made: at every moment it is safe, keeps its credit and connections exchange
+-- messages in order, and at its end nothing whole is left to either end
 pub record RunHolds (terms : Terms) (steps : List Step) : Type 0 where
   pub safe : IsSafeRun terms (made_steps steps)
   pub exchange : IsExchangeRun terms (made_steps steps)
