@@ -1,15 +1,14 @@
 -- The lines of steps, one after the other, and what holds of their run.
-use Rattle.std.proofs.Common.{◌≡◌, ℕ, ◌+◌, ◌≤◌, List, [], ◌∷◌, ◌++◌, true, length, length-append, refl, sym, ◌∙◌, ap, arith, append_assoc}
+use Rattle.std.proofs.Common.{◌≡◌, ℕ, ◌+◌, ◌≤◌, List, [], ◌∷◌, ◌++◌, true, length, length-append, refl, sym, ◌∙◌, ap, subst, arith, append_assoc}
 use Rattle.std.proofs.lemmas.Bool.{and_parts}
 use Rattle.std.proofs.lemmas.List.{append-nil}
 use Rattle.mux_run.specs.Run.{Terms}
 use Rattle.endpoint_run.specs.declared.steps.Step.{Step}
-use Rattle.endpoint_run.specs.Answers.{are_built_steps, is_built_step, made_step, made_steps, run, world_by}
-use Rattle.endpoint_run.proofs.Exchanging.{run_exchanges}
-use Rattle.endpoint_run.proofs.Safety.{run_safe}
-use Rattle.endpoint_run.proofs.Settled.{run_settled}
+use Rattle.endpoint_run.specs.Answers.{are_built_steps, is_built_step, made_step, run, world_by}
 use Rattle.endpoint_run.proofs.Telling.{run_goes_on}
+use Rattle.duo_world.specs.Holding.{DuoState, StandsForRun}
 use Rattle.duo_world.specs.Stepping.{RunHolds}
+use Rattle.duo_world.proofs.Worlds.{run_holds}
 use Rattle.transcript.specs.Report.{step_lines, steps_lines}
 
 pub stored_next : (all xs ys rest now : List Step) (s : Step) → rest ≡ s ∷ ys → xs ++ rest ≡ all → now ≡ xs ++ s ∷ [] → now ++ ys ≡ all
@@ -40,13 +39,9 @@ nil_of_length (x ∷ xs) e = absurd (omega arith)
 pub all_stored : (all xs rest : List Step) → length rest ≡ 0 → xs ++ rest ≡ all → xs ≡ all
 all_stored all xs rest none is = sym (append-nil xs) ∙ (ap (λ r. xs ++ r) (sym (nil_of_length rest none)) ∙ is)
 
--- what holds of every run
-pub run_holds : (terms : Terms) (steps : List Step) → RunHolds terms steps
-run_holds terms steps = record {
-  safe = run_safe terms (made_steps steps);
-  exchange = run_exchanges terms (made_steps steps);
-  settled = run_settled terms (made_steps steps);
-}
+-- what holds of the run of a world that made all of them
+pub all_hold : (terms : Terms) (steps : List Step) (d : DuoState) → d.terms ≡ terms → d.steps ≡ steps → StandsForRun d → RunHolds terms steps
+all_hold terms steps d terms_are stored stands = subst (λ t. RunHolds t steps) terms_are (subst (RunHolds d.terms) stored (run_holds d.terms d.steps d.a d.b stands))
 
 -- where all that are left are built, so are the first and those after it
 pub first_built : (rest ys : List Step) (s : Step) → rest ≡ s ∷ ys → are_built_steps rest ≡ true → is_built_step s ≡ true

@@ -5,7 +5,7 @@ use Rattle.endpoint_run.specs.declared.steps.Step.{Step}
 use Rattle.duo_world.specs.Holding.{DuoState, StandsForRun}
 use Rattle.duo_world.specs.Stepping.{RunHolds}
 
--- a world of these terms has made these steps; what holds of every run holds of theirs
+-- a world of these terms has made these steps; what holds of the run of a world holds of theirs
 pub record HasRun (terms : Terms) (steps : List Step) (d : DuoState) : Type 0 where
   pub terms_are : d.terms ≡ terms
   pub stored : d.steps ≡ steps

@@ -1,7 +1,7 @@
 use Rattle.std.proofs.Common.{◌≡◌, ◌+◌, ◌∷◌, ◌++◌, [], length, length-append, ◌∙◌, ap, arith}
 use Rattle.endpoint_run.specs.Answers.{run}
 use Rattle.transcript.specs.Report.{step_lines}
-use Rattle.transcript.proofs.Reported.{stored_next, lines_next, number_fits, all_stored, run_holds, first_built, others_built}
+use Rattle.transcript.proofs.Reported.{stored_next, lines_next, number_fits, all_stored, all_hold, first_built, others_built}
 use Rattle.transcript.proofs.running.push_steps.Goals as goal
 
 pub overflow_add-number : goal.overflow_add-number
@@ -31,10 +31,11 @@ pub returns-clause-made : goal.returns-clause-made
 returns-clause-made c =
     let inv = c.loop-step.invariant in
     let none : length c.loop-step.step-iterator.rest.items ≡ 0 = omega (arith, c.in-None.ensures.steps.0, c.loop-step.step-iterator.rest.ok) in
+    let stored = all_stored c.args.steps.items c.loop-step.duo.steps _ none inv.stored in
     record {
-      stored = all_stored c.args.steps.items c.loop-step.duo.steps _ none inv.stored;
+      stored = stored;
       terms_are = inv.terms;
       works = inv.works;
       stands = inv.stands;
-      holds = run_holds c.args.duo.now.terms c.args.steps.items;
+      holds = all_hold c.args.duo.now.terms c.args.steps.items c.loop-step.duo inv.terms stored inv.stands;
     }
