@@ -102,6 +102,7 @@ calls w c old new x y reply.Done parts h a enough = answered w c old new x y rep
 calls w c old new x y (reply.Made key) parts h a enough = answered w c old new x y (reply.Made key) parts h a
 calls w c old new x y (reply.Bytes bytes) parts h a enough = answered w c old new x y (reply.Bytes bytes) parts h a
 calls w c old new x y (reply.Number n) parts h a enough = answered w c old new x y (reply.Number n) parts h a
+calls w c old new x y (reply.Report value) parts h a enough = answered w c old new x y (reply.Report value) parts h a
 calls w c old new x y (reply.Known outcome) parts h a enough = answered w c old new x y (reply.Known outcome) parts h a
 calls w c old new x y reply.NotYet parts h a enough = answered w c old new x y reply.NotYet parts h a
 calls w c old new x y (reply.Refused r) parts h a enough = answered w c old new x y (reply.Refused r) parts h a

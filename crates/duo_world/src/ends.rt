@@ -83,6 +83,9 @@ fn note_ranges(call: &Call)
         | Call::Request(_, _, _, _)
         | Call::Notify(_, _, _)
         | Call::Respond(_, _, _)
+        | Call::Cancel(_, _)
+        | Call::Report(_, _, _, _)
+        | Call::TakeReport(_, _)
         | Call::Outcome(_, _)
         | Call::Forget(_, _) => {}
     }

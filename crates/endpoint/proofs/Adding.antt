@@ -1,10 +1,13 @@
 -- What an item of the multiplexing end adds to an end with connections, where nothing follows it.
 use Rattle.std.specs.Prelude.{ℕ, ◌+◌, ◌≤◌, List, [], ◌∷◌, ◌++◌, drop, length, Bool, true, false, is_none, if◌then◌else◌, option_map, Option, Some, None}
 use Rattle.std.proofs.Common.{◌≡◌, refl, sym, ◌∙◌, ap, subst}
+use Rattle.std.proofs.lemmas.List.{append-nil}
 use Rattle.call_table.specs.Table.{over}
 use Rattle.call_table.proofs.After.{lost_after}
 use Rattle.rpc_items.specs.declared.calls.Outcome.TheVariants.{Lost}
 use Rattle.rpc_items.specs.Items as rpc
+use Rattle.rpc_items.specs.Saying.{all_said}
+use Rattle.message_body.specs.AsRead.{AreMessages}
 use Rattle.wire_base.specs.declared.frame.Version.{Version}
 use Rattle.wire_base.specs.declared.state.Cause.{Cause}
 use Rattle.wire_base.specs.declared.state.EndState.{EndState}
@@ -50,6 +53,8 @@ module _ (cause : Cause) (terms : Terms) (items : List rpc.RpcItem) (at : ℕ) (
           state = refl;
           allowed = (running, c.stands.allowed);
           built = c.stands.built;
+          said = subst AreMessages (sym (append-nil (all_said items))) c.stands.said;
+          named = c.stands.named;
         };
         terms_are = c.terms_are;
         written = c.written;

@@ -48,6 +48,7 @@ module _ (old new : EndpointValue) (items : List EndItem) (at : ℕ) (rest : Lis
   applies_told (reply.Made key) is e h = (e, h)
   applies_told (reply.Bytes bytes) is e h = (e, h)
   applies_told (reply.Number n) is e h = (e, h)
+  applies_told (reply.Report value) is e h = (e, h)
   applies_told (reply.Known outcome) is e h = (e, h)
   applies_told reply.NotYet is e h = (e, h)
   applies_told (reply.Refused r) is e h = (e, h)

@@ -105,6 +105,8 @@ module _ (old new : EndpointValue) (items : List EndItem) (at : ℕ) (rest : Lis
             state = adds.stands.state;
             allowed = adds.stands.allowed;
             built = adds.stands.built;
+            said = adds.stands.said;
+            named = adds.stands.named;
           };
           terms_are = adds.terms_stay ∙ holds.stands.terms_are;
           written = refl;

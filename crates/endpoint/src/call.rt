@@ -70,6 +70,9 @@ impl Endpoint {
             }
             Call::Notify(key, method, args) => done(self.notify(key, &method, args)),
             Call::Respond(key, id, answer) => done(self.respond(key, &id, answer)),
+            Call::Cancel(key, n) => done(self.cancel(key, n)),
+            Call::Report(key, id, token, value) => done(self.report(key, &id, &token, &value)),
+            Call::TakeReport(key, n) => self.take_report(key, n).map(Reply::Report),
             Call::Outcome(key, n) => self.tell(key, n),
             Call::Forget(key, n) => done(self.forget(key, n)),
         }

@@ -10,18 +10,19 @@ ghost use Rattle.endpoint_items.specs.Items.{EndItem};
 ghost use Rattle.endpoint_items.specs.Layers.{mux_of, rpc_of};
 ghost use Rattle.mux_end.specs.Replies.{KeepsTerms};
 ghost use Rattle.mux_items.specs.Bodies.{same_key};
-ghost use Rattle.rpc_end.specs.Built.{are_plain, is_plain_answer};
+ghost use Rattle.rpc_end.specs.Built.{are_built_args, is_plain_answer};
 ghost use Rattle.rpc_end.specs.Calls.{Tests};
 ghost use Rattle.rpc_items.specs.Drawn.{drawn};
-ghost use Rattle.rpc_items.specs.Items.{Ask, Forget, Respond, Tell};
+ghost use Rattle.rpc_items.specs.Items.{Ask, Cancel, Forget, Report, Respond, TakeReport, Tell};
+ghost use Rattle.rpc_items.specs.Reports.{reports};
 ghost use Rattle.std.specs.List.{position};
-ghost use Rattle.std.specs.Prelude.{◌≡◌, ◌<◌, ◌+◌, List, length, true, ℕ};
+ghost use Rattle.std.specs.Prelude.{◌≡◌, ◌<◌, ◌+◌, List, length, slice_get, true, ℕ};
 
 use crate::endpoint::Endpoint;
 use mux_end::ChannelKey;
 use mux_items::MOST_BYTES;
 use rpc_end::{Answer, Arguments, Expect};
-use wire_base::{CallFault, Id, Refusal, Text};
+use wire_base::{CallFault, Datum, Id, Refusal, Text};
 
 /// No message has more bytes than these, with its head.
 const MOST_TEXT: u64 = 33_554_432;
@@ -35,7 +36,7 @@ impl Endpoint {
         args: Arguments,
         expect: Expect,
     ) -> Result<u64, CallFault>
-        requires plain { are_plain args ≡ true }
+        requires built { are_built_args args ≡ true }
         requires value { expect ≡ Expect.Plain }
         ensures answers { (items : List EndItem) (at : ℕ) (rest : List ℕ) → Stands self.old items at rest →
             Answers self.old self.new items at rest (OfConnection key (Ask method.now args expect)) (λ n. n ≡ drawn (items_of (rpc_of self.old.mux.version key items)) + 1) result }
@@ -55,7 +56,7 @@ impl Endpoint {
         method: &Text,
         args: Arguments,
     ) -> Result<(), CallFault>
-        requires { are_plain args ≡ true }
+        requires { are_built_args args ≡ true }
         ensures answers { (items : List EndItem) (at : ℕ) (rest : List ℕ) → Stands self.old items at rest →
             Answers self.old self.new items at rest (OfConnection key (Tell method.now args)) (λ _. Unit {0}) result }
         ensures stopped { RefusesStopped self.old self.new result }
@@ -79,6 +80,51 @@ impl Endpoint {
         self.check_room(key)?;
         let answered = self.connections[place].end.respond(id, answer);
         self.finish_said(place, answered)
+    }
+
+    /// Asks the peer of a channel to give up an own request that waits.
+    pub fn cancel(&mut self, key: ChannelKey, n: u64) -> Result<(), CallFault>
+        ensures answers { (items : List EndItem) (at : ℕ) (rest : List ℕ) → Stands self.old items at rest →
+            Answers self.old self.new items at rest (OfConnection key (Cancel n)) (λ _. Unit {0}) result }
+        ensures stopped { RefusesStopped self.old self.new result }
+        ensures terms { KeepsTerms self.old.mux self.new.mux }
+    {
+        let place = self.check_attached(key)?;
+        self.check_room(key)?;
+        let cancelled = self.connections[place].end.cancel(n);
+        self.finish_said(place, cancelled)
+    }
+
+    /// Reports a value on a request of the peer that waits on a channel. The token is one that the request gave.
+    pub fn report(
+        &mut self,
+        key: ChannelKey,
+        id: &Id,
+        token: &Id,
+        value: &Datum,
+    ) -> Result<(), CallFault>
+        ensures answers { (items : List EndItem) (at : ℕ) (rest : List ℕ) → Stands self.old items at rest →
+            Answers self.old self.new items at rest (OfConnection key (Report id.now token.now value.now)) (λ _. Unit {0}) result }
+        ensures stopped { RefusesStopped self.old self.new result }
+        ensures terms { KeepsTerms self.old.mux self.new.mux }
+    {
+        let place = self.check_attached(key)?;
+        self.check_room(key)?;
+        let reported = self.connections[place].end.report(id, token, value);
+        self.finish_said(place, reported)
+    }
+
+    /// Takes the next report that was kept on an own request, where one is left, also after the end of the connection. It
+    /// takes no memory.
+    pub fn take_report(&mut self, key: ChannelKey, n: u64) -> Result<Option<Datum>, CallFault>
+        ensures answers { (items : List EndItem) (at : ℕ) (rest : List ℕ) → Stands self.old items at rest →
+            Answers self.old self.new items at rest (OfConnection key (TakeReport n)) (λ r. r ≡ slice_get (reports n (items_of (rpc_of self.old.mux.version key items))) 0) result }
+        ensures stopped { RefusesStopped self.old self.new result }
+        ensures terms { KeepsTerms self.old.mux self.new.mux }
+    {
+        let place = self.check_attached(key)?;
+        let taken = self.connections[place].end.take_report(n);
+        self.finish_said(place, taken)
     }
 
     /// Drops a known outcome of a connection, also after its end. It takes no memory.

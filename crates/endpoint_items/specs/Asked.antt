@@ -1,5 +1,5 @@
 -- What a call asks for, and what it answers.
-use Rattle.std.specs.Prelude.{ℕ, ◌+◌, List, take, false, if◌then◌else◌, Option, Some, None}
+use Rattle.std.specs.Prelude.{ℕ, ◌+◌, List, take, false, slice_get, if◌then◌else◌, Option, Some, None}
 use Rattle.wire_base.specs.declared.frame.Version.{Version}
 use Rattle.wire_base.specs.declared.refusal.Refusal.{Refusal}
 use Rattle.wire_base.specs.declared.refusal.Refusal.TheVariants as refusal
@@ -10,8 +10,9 @@ use Rattle.mux_items.specs.Items as mux
 use Rattle.mux_items.specs.Kept.{next_key}
 use Rattle.mux_items.specs.Lists.{unread}
 use Rattle.rpc_items.specs.Drawn.{drawn}
-use Rattle.rpc_items.specs.Items.{Ask, Tell, Respond, Forget}
+use Rattle.rpc_items.specs.Items.{Ask, Tell, Respond, Cancel, Report, TakeReport, Forget}
 use Rattle.rpc_items.specs.Outcomes.{Look, Known, NotYet, NoRequest}
+use Rattle.rpc_items.specs.Reports.{reports}
 use Rattle.endpoint_items.specs.declared.call.Call.{Call}
 use Rattle.endpoint_items.specs.declared.call.Call.TheVariants as call
 use Rattle.endpoint_items.specs.declared.reply.Reply.{Reply}
@@ -29,6 +30,9 @@ made_by (call.Attach c terms) = Some (Attaches c terms)
 made_by (call.Request c method args expect) = Some (OfConnection c (Ask method args expect))
 made_by (call.Notify c method args) = Some (OfConnection c (Tell method args))
 made_by (call.Respond c id answer) = Some (OfConnection c (Respond id answer))
+made_by (call.Cancel c n) = Some (OfConnection c (Cancel n))
+made_by (call.Report c id token value) = Some (OfConnection c (Report id token value))
+made_by (call.TakeReport c n) = Some (OfConnection c (TakeReport n))
 made_by (call.Outcome c n) = None
 made_by (call.Forget c n) = Some (OfConnection c (Forget n))
 
@@ -46,6 +50,7 @@ abbrev pub success : Version → EndCall → List EndItem → Reply
 success v (OfMux c) items = mux_success v c (mux_of v items)
 success v (Attaches c terms) items = reply.Done
 success v (OfConnection c (Ask method args expect)) items = reply.Number (drawn (items_of (rpc_of v c items)) + 1)
+success v (OfConnection c (TakeReport n)) items = reply.Report (slice_get (reports n (items_of (rpc_of v c items))) 0)
 success v (OfConnection c call) items = reply.Done
 
 abbrev pub refused_or : Option Refusal → Reply → Reply
@@ -71,5 +76,8 @@ reply_to v (call.Attach c terms) items = reply_made v (Attaches c terms) items
 reply_to v (call.Request c method args expect) items = reply_made v (OfConnection c (Ask method args expect)) items
 reply_to v (call.Notify c method args) items = reply_made v (OfConnection c (Tell method args)) items
 reply_to v (call.Respond c id answer) items = reply_made v (OfConnection c (Respond id answer)) items
+reply_to v (call.Cancel c n) items = reply_made v (OfConnection c (Cancel n)) items
+reply_to v (call.Report c id token value) items = reply_made v (OfConnection c (Report id token value)) items
+reply_to v (call.TakeReport c n) items = reply_made v (OfConnection c (TakeReport n)) items
 reply_to v (call.Outcome c n) items = told v c n items
 reply_to v (call.Forget c n) items = reply_made v (OfConnection c (Forget n)) items

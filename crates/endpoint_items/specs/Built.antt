@@ -1,4 +1,4 @@
--- Calls that are built: those of connections ask for values with arguments that are values, or answer with values or errors.
+-- Calls that are built: those of connections have no sequence in them and no object.
 use Rattle.std.specs.Prelude.{Bool, true, Option, Some, None}
 use Rattle.rpc_end.specs.Built.{is_built}
 use Rattle.endpoint_items.specs.declared.call.Call.{Call}

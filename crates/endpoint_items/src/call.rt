@@ -5,7 +5,7 @@ ghost use Rattle.std.specs.Prelude.{◌≡◌, IfOk};
 use mux_items::ChannelKey;
 use rpc_end::{Answer, Arguments, Expect, Terms};
 use std::alloc::Global;
-use wire_base::{Id, OutOfMemory, Text};
+use wire_base::{Datum, Id, OutOfMemory, Text};
 
 /// A call of an end with connections.
 #[derive(Debug, Drop)]
@@ -20,6 +20,12 @@ pub enum Call {
     Notify(ChannelKey, Text, Arguments),
     /// It says the one response to a request of the peer.
     Respond(ChannelKey, Id, Answer),
+    /// It asks the peer to give up one of its requests.
+    Cancel(ChannelKey, u64),
+    /// It reports a value on a request of the peer that waits, by the token of that request's progress.
+    Report(ChannelKey, Id, Id, Datum),
+    /// The next report that came on one of its requests is taken, where one is left.
+    TakeReport(ChannelKey, u64),
     /// What became of one of its requests is asked for. This changes nothing.
     Outcome(ChannelKey, u64),
     /// A known outcome is dropped.
@@ -63,6 +69,13 @@ impl Call {
                 let id = id.copy(alloc)?;
                 Ok(Call::Respond(*key, id, answer.copy(alloc)?))
             }
+            Call::Cancel(key, n) => Ok(Call::Cancel(*key, *n)),
+            Call::Report(key, id, token, value) => {
+                let id = id.copy(alloc)?;
+                let token = token.copy(alloc)?;
+                Ok(Call::Report(*key, id, token, value.copy(alloc)?))
+            }
+            Call::TakeReport(key, n) => Ok(Call::TakeReport(*key, *n)),
             Call::Outcome(key, n) => Ok(Call::Outcome(*key, *n)),
             Call::Forget(key, n) => Ok(Call::Forget(*key, *n)),
         }

@@ -2,7 +2,7 @@
 
 use mux_items::ChannelKey;
 use rpc_end::Outcome;
-use wire_base::{Blob, Refusal};
+use wire_base::{Blob, Datum, Refusal};
 
 /// What a call answers.
 #[derive(Debug, Drop)]
@@ -14,6 +14,8 @@ pub enum Reply {
     Bytes(Blob),
     /// The number of the request that was said.
     Number(u64),
+    /// The next report on a request, where one was left.
+    Report(Option<Datum>),
     /// What became of a request.
     Known(Outcome),
     /// Nothing is known of it yet.

@@ -35,6 +35,8 @@ pub fn of_reply(alloc: Global, side: &str, reply: &Reply) -> Result<String, Fail
         Reply::Made(key) => of_key(alloc, side, *key),
         Reply::Bytes(bytes) => of_bytes(alloc, bytes.as_bytes()),
         Reply::Number(n) => Ok(format!(in alloc; "{n}")?),
+        Reply::Report(Some(value)) => of_value(alloc, value),
+        Reply::Report(None) => word(alloc, "none"),
         Reply::Known(outcome) => of_outcome(alloc, outcome),
         Reply::NotYet => word(alloc, "not yet"),
         Reply::Refused(refusal) => Ok(format!(in alloc; "{refusal:?}")?),

@@ -15,6 +15,8 @@ mod order;
 #[cfg(test)]
 mod pieces;
 #[cfg(test)]
+mod progress;
+#[cfg(test)]
 mod refusing;
 #[cfg(test)]
 mod rows;

@@ -151,6 +151,15 @@ fn fails(alloc: Global, key: ChannelKey, words: &str) -> Result<Call, Fail>
     Ok(Call::Respond(key, id_of(alloc, id)?, answer))
 }
 
+fn reports(alloc: Global, key: ChannelKey, words: &str) -> Result<Call, Fail>
+    ensures { IfOk result (λ call. is_built_call call ≡ true) }
+{
+    let (id, words) = first(words);
+    let (token, word) = first(words);
+    let (id, token) = (id_of(alloc, id)?, id_of(alloc, token)?);
+    Ok(Call::Report(key, id, token, value(alloc, word)?))
+}
+
 fn last(alloc: Global, end: &Endpoint, key: ChannelKey) -> Result<String, Fail> {
     Ok(format!(in alloc; "{}", end.last_request(key))?)
 }
@@ -273,6 +282,9 @@ fn calls(
         "tells" => makes(alloc, side, end, tells(alloc, key, words)?),
         "answers" => makes(alloc, side, end, answers(alloc, key, words)?),
         "fails" => makes(alloc, side, end, fails(alloc, key, words)?),
+        "cancels" => makes(alloc, side, end, Call::Cancel(key, count(words))),
+        "reports" => makes(alloc, side, end, reports(alloc, key, words)?),
+        "takes" => makes(alloc, side, end, Call::TakeReport(key, count(words))),
         "outcome" => makes(alloc, side, end, Call::Outcome(key, count(words))),
         "forgets" => makes(alloc, side, end, Call::Forget(key, count(words))),
         _ => match carries(alloc, key, (name, words))? {

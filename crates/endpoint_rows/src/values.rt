@@ -1,6 +1,6 @@
 //! The values that words stand for.
 
-ghost use Rattle.rpc_end.specs.Built.{are_plain};
+ghost use Rattle.rpc_end.specs.Built.{are_built_args, is_built_arg};
 ghost use Rattle.std.specs.Prelude.{◌≡◌, IfOk, true};
 
 use endpoint::{Arg, ArgList, Arguments};
@@ -68,26 +68,36 @@ pub fn id_of(alloc: Global, word: &str) -> Result<Id, Fail> {
 
 /// An argument with a name.
 fn named(alloc: Global, name: &str, word: &str) -> Result<Arguments, Fail>
-    ensures { IfOk result (λ args. are_plain args ≡ true) }
+    ensures { IfOk result (λ args. are_built_args args ≡ true) }
 {
     let mut pairs = PairList::new(alloc);
     pairs.push((Text::from_str(alloc, name)?, value(alloc, word)?))?;
     Ok(Arguments::Named(pairs))
 }
 
+/// The argument that a word stands for: `progress`, or a value.
+fn argument(alloc: Global, word: &str) -> Result<Arg, Fail>
+    ensures { IfOk result (λ arg. is_built_arg arg ≡ true) }
+{
+    match word {
+        "progress" => Ok(Arg::Progress),
+        word => Ok(Arg::Plain(value(alloc, word)?)),
+    }
+}
+
 /// Two arguments.
 fn listed(alloc: Global, first: &str, second: &str) -> Result<Arguments, Fail>
-    ensures { IfOk result (λ args. are_plain args ≡ true) }
+    ensures { IfOk result (λ args. are_built_args args ≡ true) }
 {
     let mut args = ArgList::new(alloc);
-    args.push(Arg::Plain(value(alloc, first)?))?;
-    args.push(Arg::Plain(value(alloc, second)?))?;
+    args.push(argument(alloc, first)?)?;
+    args.push(argument(alloc, second)?)?;
     Ok(Arguments::List(args))
 }
 
-/// The arguments that words stand for: none, `NAME=VALUE`, or two values.
+/// The arguments that words stand for: none, `NAME=VALUE`, or two.
 fn arguments(alloc: Global, words: &str) -> Result<Arguments, Fail>
-    ensures { IfOk result (λ args. are_plain args ≡ true) }
+    ensures { IfOk result (λ args. are_built_args args ≡ true) }
 {
     if words.is_empty() {
         return Ok(Arguments::Absent);
@@ -103,7 +113,7 @@ fn arguments(alloc: Global, words: &str) -> Result<Arguments, Fail>
 
 /// The method that the first word names, and the arguments that the others stand for.
 pub fn call_of(alloc: Global, words: &str) -> Result<(Text, Arguments), Fail>
-    ensures { IfOk result (λ call. are_plain call.1 ≡ true) }
+    ensures { IfOk result (λ call. are_built_args call.1 ≡ true) }
 {
     let (method, words) = words.split_once(' ').unwrap_or((words, ""));
     let args = arguments(alloc, words)?;

@@ -1,5 +1,5 @@
 -- Worked values: what steps answer, first calls of the multiplexing ends, then those in which A asks over two attached connections and B replies.
-use Rattle.std.specs.Prelude.{List, [], ◌∷◌, ◌++◌, take, true, false, pos}
+use Rattle.std.specs.Prelude.{List, [], ◌∷◌, ◌++◌, take, true, false, pos, Some, None}
 use Rattle.std.specs.Str.{is_utf8, chars}
 use Rattle.std.proofs.Common.{◌≡◌, refl}
 use lib.Utf8.{encode}
@@ -25,6 +25,7 @@ use Rattle.mux_items.specs.Applying.{place_at}
 use Rattle.mux_run.specs.declared.steps.Side.{Side}
 use Rattle.mux_run.specs.declared.steps.Side.TheVariants.{A, B}
 use Rattle.rpc_items.specs.declared.calls.Answer.TheVariants as answered
+use Rattle.rpc_items.specs.declared.calls.Arg.TheVariants as arg
 use Rattle.rpc_items.specs.declared.calls.Arguments.TheVariants as arguments
 use Rattle.rpc_items.specs.declared.calls.Expect.TheVariants.{Plain}
 use Rattle.rpc_items.specs.declared.calls.Outcome.TheVariants.{Replied}
@@ -218,3 +219,40 @@ known = refl
 forgotten : answer terms look (run terms (responded ++ step.Deliver A 1000 ∷ step.Call A (call.Forget at_a 1) ∷ [])) ≡ duo.Replied (reply.Refused refusal.NoRequest) []
 unfolding front head_text pack.front head_at token_at inner_at field_at bytes_at lettered run_at text_at cut_head key_at repeat pair_at behind value_at items_at pairs_at is_utf8 chars encode
 forgotten = refl
+
+-- a request without an argument for progress has no reports
+abbrev take_report : Step
+take_report = step.Call A (call.TakeReport at_a 1)
+
+no_token : answer terms take_report (run terms asked) ≡ duo.Replied (reply.Refused refusal.NoToken) []
+unfolding head_text
+no_token = refl
+
+-- A asks with one, and B reports on its request
+abbrev reported : List Step
+reported = attached
+    ++ step.Call A (call.Request at_a (109 ∷ []) (arguments.List (arg.Progress ∷ [])) Plain)
+    ∷ step.Deliver B 1000
+    ∷ step.Call B (call.Report at_b (Number (pos 1)) (Number (pos 1)) (count_value 50))
+    ∷ []
+
+-- the report can be taken at A, once
+taken : answer terms take_report (run terms (reported ++ step.Deliver A 1000 ∷ [])) ≡ duo.Replied (reply.Report (Some (count_value 50))) []
+unfolding front head_text pack.front head_at token_at inner_at field_at bytes_at lettered run_at text_at cut_head key_at repeat pair_at behind value_at items_at pairs_at is_utf8 chars encode
+taken = refl
+
+none_left : answer terms take_report (run terms (reported ++ step.Deliver A 1000 ∷ take_report ∷ [])) ≡ duo.Replied (reply.Report None) []
+unfolding front head_text pack.front head_at token_at inner_at field_at bytes_at lettered run_at text_at cut_head key_at repeat pair_at behind value_at items_at pairs_at is_utf8 chars encode
+none_left = refl
+
+-- A cancels its request, once
+abbrev cancel : Step
+cancel = step.Call A (call.Cancel at_a 1)
+
+cancels : answer terms cancel (run terms asked) ≡ duo.Replied reply.Done []
+unfolding head_text
+cancels = refl
+
+cancelled : answer terms cancel (run terms (asked ++ cancel ∷ [])) ≡ duo.Replied (reply.Refused refusal.AlreadyCancelled) []
+unfolding head_text
+cancelled = refl

@@ -1,7 +1,8 @@
-use Rattle.std.specs.Prelude.{◌+◌}
+use Rattle.std.specs.Prelude.{◌+◌, slice_get}
 use Rattle.std.proofs.Common.{◌≡◌, refl, ap}
 use Rattle.rpc_items.specs.Drawn.{drawn}
-use Rattle.rpc_items.specs.Items.{Ask, Forget, Respond, Tell}
+use Rattle.rpc_items.specs.Items.{Ask, Cancel, Forget, Report, Respond, TakeReport, Tell}
+use Rattle.rpc_items.specs.Reports.{reports}
 use Rattle.endpoint_items.specs.declared.call.Call.TheVariants as call
 use Rattle.endpoint_items.specs.declared.reply.Reply.TheVariants as reply
 use Rattle.endpoint_items.specs.Calls.{Attaches, OfConnection}
@@ -32,6 +33,24 @@ pub returns-in-Respond-clause-applies : goal.returns-in-Respond-clause-applies
 returns-in-Respond-clause-applies c = λ items at rest s.
     let a = c.in-Respond in
     rw a.is (done_applied c.args.self.now c.respond.new.self items at rest (call.Respond a.key a.id a.answer) (OfConnection a.key (Respond a.id a.answer)) refl refl c.respond.result c.done-in-Respond.result c.done-in-Respond.ensures (c.respond.ensures.answers items at rest s))
+
+pub returns-in-Cancel-clause-applies : goal.returns-in-Cancel-clause-applies
+returns-in-Cancel-clause-applies c = λ items at rest s.
+    let a = c.in-Cancel in
+    rw a.is (done_applied c.args.self.now c.cancel.new.self items at rest (call.Cancel a.key a.n) (OfConnection a.key (Cancel a.n)) refl refl c.cancel.result c.done-in-Cancel.result c.done-in-Cancel.ensures (c.cancel.ensures.answers items at rest s))
+
+pub returns-in-Report-clause-applies : goal.returns-in-Report-clause-applies
+returns-in-Report-clause-applies c = λ items at rest s.
+    let a = c.in-Report in
+    rw a.is (done_applied c.args.self.now c.report.new.self items at rest (call.Report a.key a.id a.token a.value) (OfConnection a.key (Report a.id a.token a.value)) refl refl c.report.result c.done-in-Report.result c.done-in-Report.ensures (c.report.ensures.answers items at rest s))
+
+pub returns-in-TakeReport-clause-applies : goal.returns-in-TakeReport-clause-applies
+returns-in-TakeReport-clause-applies c = λ items at rest s.
+    let old = c.args.self.now in
+    let a = c.in-TakeReport in
+    let next = slice_get (reports a.n (items_of (rpc_of old.mux.version a.key items))) 0 in
+    rw a.is (applied old c.take_report.new.self items at rest (call.TakeReport a.key a.n) (OfConnection a.key (TakeReport a.n)) (λ r. r ≡ next) reply.Report (reply.Report next) refl refl
+    (λ r e. ap reply.Report e) (λ r. refl) c.take_report.result c.map-in-TakeReport.result c.map-in-TakeReport.ensures.cases (c.take_report.ensures.answers items at rest s))
 
 pub returns-in-Forget-clause-applies : goal.returns-in-Forget-clause-applies
 returns-in-Forget-clause-applies c = λ items at rest s.
