@@ -332,7 +332,7 @@ fn joined(alloc: Global, front: &str, rest: &str) -> Result<String, Fail> {
 }
 
 /// The number of the first script on a live channel whose report is another.
-fn first_other_on_it(
+pub fn first_other_on_it(
     alloc: Global,
     rows: &[(&'static str, &'static str)],
 ) -> Result<Option<usize>, Fail> {

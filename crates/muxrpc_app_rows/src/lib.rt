@@ -5,6 +5,8 @@
 #[cfg(test)]
 mod connections;
 #[cfg(test)]
+mod progress;
+#[cfg(test)]
 mod scripts;
 #[cfg(test)]
 mod statuses;

@@ -36,6 +36,9 @@ word_text word.Request = codes "request"
 word_text word.Notify = codes "notify"
 word_text word.Result = codes "result"
 word_text word.Fault = codes "fault"
+word_text word.Cancel = codes "cancel"
+word_text word.Report = codes "report"
+word_text word.Reports = codes "reports"
 word_text word.Outcome = codes "outcome"
 word_text word.Forget = codes "forget"
 word_text word.Deliver = codes "deliver"
@@ -55,6 +58,9 @@ forms_of word.Request = side ∷ channel ∷ method ∷ expect ∷ []
 forms_of word.Notify = side ∷ channel ∷ method ∷ []
 forms_of word.Result = side ∷ channel ∷ json_id ∷ []
 forms_of word.Fault = side ∷ channel ∷ json_id ∷ signed ∷ []
+forms_of word.Cancel = side ∷ channel ∷ number ∷ []
+forms_of word.Report = side ∷ channel ∷ json_id ∷ json_id ∷ []
+forms_of word.Reports = side ∷ channel ∷ number ∷ []
 forms_of word.Outcome = side ∷ channel ∷ number ∷ []
 forms_of word.Forget = side ∷ channel ∷ number ∷ []
 forms_of word.Deliver = side ∷ count ∷ []
@@ -74,6 +80,9 @@ rest_of word.Request = arguments
 rest_of word.Notify = arguments
 rest_of word.Result = json
 rest_of word.Fault = string
+rest_of word.Cancel = nothing
+rest_of word.Report = json
+rest_of word.Reports = nothing
 rest_of word.Outcome = nothing
 rest_of word.Forget = nothing
 rest_of word.Deliver = nothing
@@ -122,6 +131,9 @@ meaning word.Request (s, (c, (m, (e, end)))) text = calls s (call.Request (key_a
 meaning word.Notify (s, (c, (m, end))) text = calls s (call.Notify (key_at s c) m (arguments_said text))
 meaning word.Result (s, (c, (id, end))) text = calls s (call.Respond (key_at s c) (id_said id) (answer.Value (json_said text)))
 meaning word.Fault (s, (c, (id, (code, end)))) text = calls s (call.Respond (key_at s c) (id_said id) (answer.Fault (signed_value code) (string_said text) None))
+meaning word.Cancel (s, (c, (n, end))) rest = calls s (call.Cancel (key_at s c) n)
+meaning word.Report (s, (c, (id, (token, end)))) text = calls s (call.Report (key_at s c) (id_said id) (id_said token) (json_said text))
+meaning word.Reports (s, (c, (n, end))) rest = calls s (call.TakeReport (key_at s c) n)
 meaning word.Outcome (s, (c, (n, end))) rest = calls s (call.Outcome (key_at s c) n)
 meaning word.Forget (s, (c, (n, end))) rest = calls s (call.Forget (key_at s c) n)
 meaning word.Deliver (s, (n, end)) rest = plain (step.Deliver s n)
@@ -130,9 +142,9 @@ meaning word.End (s, end) rest = plain (step.End s)
 -- all step words that have a step
 abbrev pub step_words : List StepWord
 step_words = word.Offer ∷ word.Accept ∷ word.Write ∷ word.Fill ∷ word.Read ∷ word.Complete ∷ word.Terminate ∷ word.Attach ∷ word.Request
-    ∷ word.Notify ∷ word.Result ∷ word.Fault ∷ word.Outcome ∷ word.Forget ∷ word.Deliver ∷ word.End ∷ []
+    ∷ word.Notify ∷ word.Result ∷ word.Fault ∷ word.Cancel ∷ word.Report ∷ word.Reports ∷ word.Outcome ∷ word.Forget ∷ word.Deliver
+    ∷ word.End ∷ []
 
 -- the step words of the format that have none yet
 abbrev pub later_words : List (List ℕ)
-later_words = codes "object" ∷ codes "sequence" ∷ codes "cancel" ∷ codes "report" ∷ codes "reports" ∷ codes "next" ∷ codes "abort"
-    ∷ codes "invoke" ∷ codes "release" ∷ []
+later_words = codes "object" ∷ codes "sequence" ∷ codes "next" ∷ codes "abort" ∷ codes "invoke" ∷ codes "release" ∷ []

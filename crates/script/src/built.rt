@@ -3,7 +3,7 @@
 ghost use Rattle.std.specs.Prelude.{◌≡◌};
 ghost use Rattle.endpoint_items.specs.Built.{is_built_call};
 ghost use Rattle.endpoint_run.specs.Answers.{is_built_step};
-ghost use Rattle.rpc_end.specs.Built.{are_plain, is_plain, is_plain_answer, is_plain_arg};
+ghost use Rattle.rpc_end.specs.Built.{are_built_args, is_built_arg, is_plain, is_plain_answer};
 ghost use Rattle.script.specs.Given.{Gives};
 ghost use Rattle.script.specs.Steps.{if_built};
 
@@ -14,17 +14,17 @@ use endpoint_items::Call;
 use endpoint_run::Step;
 use rpc_end::{Answer, Arg, Arguments, Expect};
 
-fn is_plain_arg(arg: &Arg) -> bool
-    ensures { result ≡ is_plain_arg arg.now }
+fn is_built_arg(arg: &Arg) -> bool
+    ensures { result ≡ is_built_arg arg.now }
 {
-    matches!(arg, Arg::Plain(_))
+    matches!(arg, Arg::Plain(_) | Arg::Progress)
 }
 
-fn are_plain(args: &Arguments) -> bool
-    ensures { result ≡ are_plain args.now }
+fn are_built_args(args: &Arguments) -> bool
+    ensures { result ≡ are_built_args args.now }
 {
     match args {
-        Arguments::List(args) => args.as_slice().iter().all(|arg| is_plain_arg(arg)),
+        Arguments::List(args) => args.as_slice().iter().all(|arg| is_built_arg(arg)),
         Arguments::Absent | Arguments::Named(_) => true,
     }
 }
@@ -45,10 +45,16 @@ fn is_built_call(call: &Call) -> bool
     ensures { result ≡ is_built_call call.now }
 {
     match call {
-        Call::Request(_, _, args, expect) => are_plain(args) && is_plain(*expect),
-        Call::Notify(_, _, args) => are_plain(args),
+        Call::Request(_, _, args, expect) => are_built_args(args) && is_plain(*expect),
+        Call::Notify(_, _, args) => are_built_args(args),
         Call::Respond(_, _, answer) => is_plain_answer(answer),
-        Call::Mux(_) | Call::Attach(_, _) | Call::Outcome(_, _) | Call::Forget(_, _) => true,
+        Call::Mux(_)
+        | Call::Attach(_, _)
+        | Call::Cancel(_, _)
+        | Call::Report(_, _, _, _)
+        | Call::TakeReport(_, _)
+        | Call::Outcome(_, _)
+        | Call::Forget(_, _) => true,
     }
 }
 

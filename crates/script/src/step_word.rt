@@ -18,6 +18,9 @@ pub enum StepWord {
     Notify,
     Result,
     Fault,
+    Cancel,
+    Report,
+    Reports,
     Outcome,
     Forget,
     Deliver,
@@ -41,6 +44,9 @@ pub fn step_word(word: &str) -> Option<StepWord>
         "notify" => Some(StepWord::Notify),
         "result" => Some(StepWord::Result),
         "fault" => Some(StepWord::Fault),
+        "cancel" => Some(StepWord::Cancel),
+        "report" => Some(StepWord::Report),
+        "reports" => Some(StepWord::Reports),
         "outcome" => Some(StepWord::Outcome),
         "forget" => Some(StepWord::Forget),
         "deliver" => Some(StepWord::Deliver),
@@ -54,15 +60,7 @@ pub fn is_later(word: &str) -> bool
     ensures { result ≡ is_later word.now }
 {
     match word {
-        "object"
-        | "sequence"
-        | "cancel"
-        | "report"
-        | "reports"
-        | "next"
-        | "abort"
-        | "invoke"
-        | "release" => true,
+        "object" | "sequence" | "next" | "abort" | "invoke" | "release" => true,
         _ => false,
     }
 }

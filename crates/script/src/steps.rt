@@ -220,6 +220,47 @@ fn fault(alloc: Global, words: &[&str]) -> Result<LineStep, LineFault>
 }
 
 #[tactic(auto, unfolding(crate::specs::Steps::step_by))]
+fn cancel(words: &[&str]) -> Result<LineStep, LineFault>
+    ensures { Gives (λ s. s) result (step_by StepWord.Cancel (map (λ w. w.now) words.now)) }
+{
+    let [side, channel, number] = words else {
+        return Err(BAD_WORD);
+    };
+    let side = text_words::side(side).ok_or(BAD_WORD)?;
+    let channel = text_words::channel(channel).ok_or(BAD_WORD)?;
+    let number = u64::from(text_words::number(number).ok_or(BAD_WORD)?);
+    Ok(calls(side, Call::Cancel(channel.key(side), number)))
+}
+
+#[tactic(auto, unfolding(crate::specs::Steps::step_by))]
+fn report(alloc: Global, words: &[&str]) -> Result<LineStep, LineFault>
+    ensures { Gives (λ s. s) result (step_by StepWord.Report (map (λ w. w.now) words.now)) }
+{
+    let [side, channel, id, token, rest @ ..] = words else {
+        return Err(BAD_WORD);
+    };
+    let side = text_words::side(side).ok_or(BAD_WORD)?;
+    let channel = text_words::channel(channel).ok_or(BAD_WORD)?;
+    let id = text_words::json_id(alloc, id)?.ok_or(BAD_WORD)?;
+    let token = text_words::json_id(alloc, token)?.ok_or(BAD_WORD)?;
+    let value = rest::json(alloc, rest)?;
+    Ok(calls(side, Call::Report(channel.key(side), id, token, value)))
+}
+
+#[tactic(auto, unfolding(crate::specs::Steps::step_by))]
+fn reports(words: &[&str]) -> Result<LineStep, LineFault>
+    ensures { Gives (λ s. s) result (step_by StepWord.Reports (map (λ w. w.now) words.now)) }
+{
+    let [side, channel, number] = words else {
+        return Err(BAD_WORD);
+    };
+    let side = text_words::side(side).ok_or(BAD_WORD)?;
+    let channel = text_words::channel(channel).ok_or(BAD_WORD)?;
+    let number = u64::from(text_words::number(number).ok_or(BAD_WORD)?);
+    Ok(calls(side, Call::TakeReport(channel.key(side), number)))
+}
+
+#[tactic(auto, unfolding(crate::specs::Steps::step_by))]
 fn outcome(words: &[&str]) -> Result<LineStep, LineFault>
     ensures { Gives (λ s. s) result (step_by StepWord.Outcome (map (λ w. w.now) words.now)) }
 {
@@ -285,6 +326,9 @@ fn step_by(alloc: Global, word: StepWord, words: &[&str]) -> Result<LineStep, Li
         StepWord::Notify => notify(alloc, words),
         StepWord::Result => result(alloc, words),
         StepWord::Fault => fault(alloc, words),
+        StepWord::Cancel => cancel(words),
+        StepWord::Report => report(alloc, words),
+        StepWord::Reports => reports(words),
         StepWord::Outcome => outcome(words),
         StepWord::Forget => forget(words),
         StepWord::Deliver => deliver(words),

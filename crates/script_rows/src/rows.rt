@@ -1,9 +1,9 @@
 //! Worked scripts.
 
-use script::{Script, ScriptFault, read_script};
 use endpoint_items::Call;
 use endpoint_run::Step;
 use mux_run::Side;
+use script::{Script, ScriptFault, read_script};
 use std::alloc::Global;
 use std::test::Fail;
 use text_words::NONCE_SIZE;
@@ -221,6 +221,22 @@ fn reads_calls_of_connections(rt: HostRuntime) -> Result<(), Fail> {
             "Some(Call(B, Respond(ChannelKey { id: 1, own: false }, Number(-2), Fault(-4294967295, Text { inner: \"t u\" }, None))))",
         ),
         (
+            "request A A1 m plain [1,{\"$progress\":true}]",
+            "Some(Call(A, Request(ChannelKey { id: 1, own: true }, Text { inner: \"m\" }, List(ArgList { items: [Plain(Datum { node: Whole(Whole { inner: 1 }) }), Progress] }), Plain)))",
+        ),
+        (
+            "cancel B A1 7",
+            "Some(Call(B, Cancel(ChannelKey { id: 1, own: false }, 7)))",
+        ),
+        (
+            "report B A1 1 \"t\" {\"done\": 50}",
+            "Some(Call(B, Report(ChannelKey { id: 1, own: false }, Number(1), Name(Text { inner: \"t\" }), Datum { node: Pairs(PairList { pairs: [(Text { inner: \"done\" }, Datum { node: Whole(Whole { inner: 50 }) })] }) })))",
+        ),
+        (
+            "reports A A1 1",
+            "Some(Call(A, TakeReport(ChannelKey { id: 1, own: true }, 1)))",
+        ),
+        (
             "outcome A A1 4294967295",
             "Some(Call(A, Outcome(ChannelKey { id: 1, own: true }, 4294967295)))",
         ),
@@ -403,7 +419,7 @@ fn refuses_broken_calls_of_connections(rt: HostRuntime) -> Result<(), Fail> {
         ("request A A1 m sequence [1.5]", 93),
         ("request A A1 m sequence []", 94),
         ("request A A1 m sequence -", 94),
-        ("request A A1 m plain [{\"$progress\":true}]", 94),
+        ("request A A1 m sequence [{\"$progress\":true}]", 94),
         ("request A A1 m plain [1,{\"$object\":[1,\"call\"]}]", 94),
         ("notify A A1 m", 92),
         ("notify A A1 m {", 93),
@@ -424,8 +440,15 @@ fn refuses_broken_calls_of_connections(rt: HostRuntime) -> Result<(), Fail> {
         ("outcome A A1 01", 92),
         ("outcome A A1", 92),
         ("forget A A1 1 1", 92),
+        ("cancel A A1", 92),
+        ("cancel A A1 -1", 92),
+        ("report B A1 1 t 5", 92),
+        ("report B A1 1.5 1 5", 92),
+        ("report B A1 1 1", 92),
+        ("report B A1 1 1 ", 93),
+        ("report B A1 1 1 1.5", 93),
+        ("reports A A1 1 1", 92),
         ("object", 94),
-        ("cancel A A1 1", 94),
         ("release A", 94),
         ("Request A A1 m plain -", 91),
     ];

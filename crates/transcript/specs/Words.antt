@@ -1,5 +1,5 @@
 -- The words of a report.
-use Rattle.std.specs.Prelude.{ℕ, List, [], ◌++◌, codes, if◌then◌else◌}
+use Rattle.std.specs.Prelude.{ℕ, List, [], ◌++◌, codes, if◌then◌else◌, Option, Some, None}
 use Rattle.std.specs.Fmt.{decimal}
 use Rattle.hex.specs.Hex.{encode_lower}
 use Rattle.frame_text.specs.Frames.{is_empty}
@@ -14,7 +14,7 @@ use Rattle.mux_items.specs.declared.channel.Phase.TheVariants as phase
 use Rattle.mux_items.specs.declared.channel.MuxEvent.{MuxEvent}
 use Rattle.mux_items.specs.declared.channel.MuxEvent.TheVariants as mux
 use Rattle.mux_run.specs.declared.steps.Side.{Side}
-use Rattle.wire_base.specs.Tree.{whole, words}
+use Rattle.wire_base.specs.Tree.{Tree, whole, words}
 use Rattle.wire_base.specs.declared.text.Id.{Id}
 use Rattle.json_value.specs.Json.{shown}
 use Rattle.rpc_items.specs.declared.calls.Outcome.{Outcome}
@@ -58,11 +58,17 @@ outcome_text (outcome.Failed code message more) = codes "failed " ++ shown (whol
 outcome_text outcome.Lost = codes "lost"
 outcome_text outcome.Starved = codes "starved"
 
+-- the next report of progress, where one was left
+abbrev pub progress_text : Option Tree → List ℕ
+progress_text (Some value) = codes "report " ++ shown value
+progress_text None = codes "report none"
+
 abbrev pub reply_text : Side → Reply → List ℕ
 reply_text side reply.Done = codes "ok"
 reply_text side (reply.Made key) = codes "channel " ++ channel_text side key
 reply_text side (reply.Bytes bytes) = codes "bytes " ++ bytes_word bytes
 reply_text side (reply.Number n) = codes "request " ++ decimal n
+reply_text side (reply.Report value) = progress_text value
 reply_text side (reply.Known o) = outcome_text o
 reply_text side reply.NotYet = codes "pending"
 reply_text side (reply.Refused r) = refusal_text r

@@ -3,7 +3,7 @@
 ghost use Rattle.std.specs.Prelude.{◌≡◌, ◌++◌, codes, OnOk};
 ghost use Rattle.wire_base.specs.Tree.{whole, words};
 ghost use Rattle.json_value.specs.Json.{shown};
-ghost use Rattle.transcript.specs.Words.{id_text, outcome_text, target_text};
+ghost use Rattle.transcript.specs.Words.{id_text, outcome_text, progress_text, target_text};
 
 use json_value::show;
 use rpc_items::{Outcome, Target};
@@ -83,5 +83,22 @@ pub(crate) fn push_outcome(
         Outcome::Failed(code, message, _) => push_failure(alloc, out, *code, message),
         Outcome::Lost => push_text(out, "lost"),
         Outcome::Starved => push_text(out, "starved"),
+    }
+}
+
+/// Appends the next report of progress, where one was left.
+pub(crate) fn push_progress(
+    alloc: Global,
+    out: &mut Vec<u8>,
+    value: &Option<Datum>,
+) -> Result<(), OutOfMemory>
+    ensures { OnOk result (out.new.items ≡ out.old.items ++ progress_text value.now) }
+{
+    match value {
+        Some(value) => {
+            push_text(out, "report ")?;
+            show(alloc, value, out)
+        }
+        None => push_text(out, "report none"),
     }
 }

@@ -3,7 +3,7 @@
 ghost use Rattle.std.specs.Prelude.{◌≡◌, ◌++◌, OnOk};
 ghost use Rattle.transcript.specs.Words.{cause_text, phase_text, refusal_text, reply_text, emitted_line};
 
-use crate::requests::push_outcome;
+use crate::requests::{push_outcome, push_progress};
 use endpoint_items::Reply;
 use mux_items::Phase;
 use mux_run::Side;
@@ -75,6 +75,7 @@ pub(crate) fn push_reply(
             push_text(out, "request ")?;
             push_decimal(out, *number)
         }
+        Reply::Report(value) => push_progress(alloc, out, value),
         Reply::Known(outcome) => push_outcome(alloc, out, outcome),
         Reply::NotYet => push_text(out, "pending"),
         Reply::Refused(refusal) => push_refusal(out, refusal),
