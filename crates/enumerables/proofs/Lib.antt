@@ -1,0 +1,11 @@
+pub mod Places
+pub mod Tokens
+pub mod Standing
+pub mod Finding
+pub mod Following
+pub mod Keeping
+pub mod Settled
+pub mod Reading
+pub mod Passing
+pub mod After
+pub mod Back

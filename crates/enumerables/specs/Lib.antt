@@ -1,0 +1,5 @@
+pub mod Codes
+pub mod Producer
+pub mod Consumer
+pub mod Replies
+pub mod Stands
