@@ -14,7 +14,7 @@ pub use laws::{
 };
 pub use reader::read;
 pub use rpc_items::{Message, Params};
-pub use writer::write;
+pub use writer::{append, write};
 
 #[cfg(test)]
 mod tests;

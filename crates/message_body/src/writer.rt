@@ -57,7 +57,12 @@ fn put_pack(value: &Datum, out: &mut Vec<u8>) -> Result<(), CallFault>
 }
 
 /// Appends a value, whatever its length.
-fn put(alloc: Global, encoding: Encoding, value: &Datum, out: &mut Vec<u8>) -> Result<(), CallFault>
+pub fn append(
+    alloc: Global,
+    encoding: Encoding,
+    value: &Datum,
+    out: &mut Vec<u8>,
+) -> Result<(), CallFault>
     ensures ok { OnOk result (out.new.items ≡ out.old.items ++ value_text encoding value.now) }
     ensures valid { OnOk result (IsValue value.now) }
     ensures answer { Puts encoding value.now result }
@@ -83,7 +88,7 @@ fn put_body(
     ensures err { OnErr result (out.new.items ≡ out.old.items) }
 {
     let start = out.len();
-    put(alloc, encoding, value, out)?;
+    append(alloc, encoding, value, out)?;
     if out.len() - start > MAX_BODY {
         out.truncate(start);
         return Err(CallFault::Refused(Refusal::BodyTooLong));

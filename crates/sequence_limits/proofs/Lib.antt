@@ -1,0 +1,4 @@
+pub mod Nested
+pub mod Refused
+pub mod Kept
+pub mod Checked
