@@ -1,18 +1,20 @@
 -- What an end answers to calls.
-use Rattle.std.specs.Prelude.{ℕ, List, [], ◌∷◌, ◌+◌, length, Bool, true, false, nat_le, slice_get, if◌then◌else◌, Option, Some, None, Result, Ok, Err, OnOk}
+use Rattle.std.specs.Prelude.{ℕ, List, [], ◌∷◌, ◌+◌, length, Bool, true, false, nat_le, is_none, slice_get, if◌then◌else◌, Option, Some, None, Result, Ok, Err, OnOk}
 use Rattle.std.specs.List.{list_all, list_any}
 use Rattle.std.proofs.Common.{◌≡◌, refl, sym, ◌∙◌, ap, subst}
 use Rattle.std.proofs.lemmas.List.{append-nil}
 use Rattle.call_table.specs.Replies.{Does, Takes, full_refusal, take_refusal, unless_there}
-use Rattle.call_table.specs.Stands.{StandsDrawn, TableStands, asked_as}
+use Rattle.call_table.specs.Stands.{StandsDrawn, TableStands}
 use Rattle.call_table.specs.Table.{TableValue, left_in, look_in, waits_in, with_forgotten}
 use Rattle.call_table.proofs.Passing.{report_leaves, tell_leaves}
 use Rattle.call_table.proofs.Reading.{lefts, looks, takes_as}
+use Rattle.enumerables.specs.declared.followed.Followed.{Followed}
+use Rattle.enumerables.specs.declared.sequence.Sequence.{Sequence}
+use Rattle.enumerables.specs.Stands.{ConsumerStands, ProducerStands}
+use Rattle.enumerables.proofs.Passing.{call_leaves_consumer, call_leaves_producer, is_page_call}
 use Rattle.message_body.specs.AsRead.{AreMessages}
 use Rattle.message_body.specs.Replies.{Writes}
 use Rattle.message_body.specs.Written.{encoder}
-use Rattle.rpc_items.specs.declared.calls.Answer.{Answer}
-use Rattle.rpc_items.specs.declared.calls.Answer.TheVariants as answer
 use Rattle.rpc_items.specs.declared.calls.Arg.{Arg}
 use Rattle.rpc_items.specs.declared.calls.Arg.TheVariants as arg
 use Rattle.rpc_items.specs.declared.calls.Arguments.{Arguments}
@@ -23,14 +25,13 @@ use Rattle.rpc_items.specs.Arguments.{args_refusal, handed, most_drawn}
 use Rattle.rpc_items.specs.Bodies.{Encoder, first_refusal, or_else}
 use Rattle.rpc_items.specs.Drawn.{arg_list, drawn, has_progress_arg}
 use Rattle.rpc_items.specs.Ids.{numbered_id}
-use Rattle.rpc_items.specs.Items.{RpcCall, Ask, Tell, Respond, Report, TakeReport, Forget, RpcItem, Did, ended}
+use Rattle.rpc_items.specs.Items.{RpcCall, Ask, Tell, Report, TakeReport, Forget, RpcItem, Did, ended, is_running}
 use Rattle.rpc_items.specs.Made.{last_handle, made, made_in}
 use Rattle.rpc_items.specs.Outcomes.{is_known, outcome}
+use Rattle.rpc_items.specs.Produced.{produced_by}
 use Rattle.rpc_items.specs.Reports.{reports}
-use Rattle.rpc_items.specs.Refusals.{answer_refusal, call_refusal, is_of_the_past, reserved_refusal, said_refusal, state_refusal, unless_ended}
-use Rattle.rpc_items.specs.Fitting.{IsNamed}
-use Rattle.rpc_items.specs.Waiting.{is_waiting}
-use Rattle.rpc_items.specs.Saying.{all_said, arg_values, asks_next, params_of, response, said}
+use Rattle.rpc_items.specs.Refusals.{call_refusal, is_of_the_past, reserved_refusal, said_refusal, state_refusal, unless_ended}
+use Rattle.rpc_items.specs.Saying.{all_said, arg_values, asks_next, params_of, said}
 use Rattle.wire_base.specs.Tree.{Tree}
 use Rattle.wire_base.specs.declared.fault.CallFault.{CallFault}
 use Rattle.wire_base.specs.declared.fault.CallFault.TheVariants as fault
@@ -40,9 +41,9 @@ use Rattle.wire_base.specs.declared.state.Cause.{Cause}
 use Rattle.wire_base.specs.declared.state.EndState.{EndState}
 use Rattle.wire_base.specs.declared.state.EndState.TheVariants as state
 use Rattle.wire_base.specs.declared.text.Id.{Id}
-use Rattle.rpc_end.specs.Built.{are_built, are_built_args, arg_value, is_built, is_built_arg, is_plain_answer, is_progress}
-use Rattle.rpc_end.specs.Calls.{Calls, Prepares, finished, member_refusal, needs_refusal, plain_refusal, reply_refusal, running_refusal, told_refusal}
-use Rattle.rpc_end.specs.Ends.{Makes, with_said, with_table}
+use Rattle.rpc_end.specs.Built.{are_built, are_built_args, arg_value, is_built, is_built_arg, is_progress}
+use Rattle.rpc_end.specs.Calls.{Calls, Prepares, finished, member_refusal, needs_refusal, plain_refusal, running_refusal, told_refusal}
+use Rattle.rpc_end.specs.Ends.{Makes, with_consumer, with_producer, with_said, with_table}
 use Rattle.rpc_end.specs.Replies.{Adds, Answers, CallAnswers, early_refusal}
 use Rattle.rpc_end.specs.Stands.{RpcStands, RpcValue, state_by}
 use Rattle.rpc_end.proofs.Plain.{made_none, makes_none}
@@ -79,33 +80,23 @@ plain_args args items p b =
     let offers : made_in None (arg_list args) ≡ [] = makes_none None (arg_list args) p in
     simp (none, hands, offers)
 
--- plain answers, whatever happened before
-pub plain_response : (id : Id) (given : Answer) (items : List RpcItem) → is_plain_answer given ≡ true → response id given [] ≡ response id given items
-plain_response id (answer.Value value) items p = refl
-plain_response id (answer.Fault code text more) items p = refl
-plain_response id (answer.Object object) items p = absurd cc
-plain_response id (answer.Sequence values page first) items p = absurd cc
-
-pub plain_reply : (given : Answer) (items : List RpcItem) → is_plain_answer given ≡ true → answer_refusal given [] ≡ answer_refusal given items
-plain_reply (answer.Value value) items p = refl
-plain_reply (answer.Fault code text more) items p = refl
-plain_reply (answer.Object object) items p = absurd cc
-plain_reply (answer.Sequence values page first) items p = absurd cc
-
-pub plain_said : (k : Encoder) (id : Id) (given : Answer) (items : List RpcItem) → is_plain_answer given ≡ true → said_refusal k (Respond id given) items ≡ first_refusal k (said (Did (Respond id given)) items)
-plain_said k id (answer.Value value) items p = refl
-plain_said k id (answer.Fault code text more) items p = refl
-plain_said k id (answer.Object object) items p = absurd cc
-plain_said k id (answer.Sequence values page first) items p = absurd cc
+-- what an end keeps of requests and sequences is as these items leave it
+pub record KeepsFor (end : RpcValue) (items : List RpcItem) : Type 0 where
+  pub table : TableStands false end.table items
+  pub producer : ProducerStands end.producer items
+  pub consumer : ConsumerStands end.consumer items
 
 -- an accepted call adds its item
-adds : (old now : RpcValue) (table : TableValue) (call : RpcCall) (items : List RpcItem) (at : ℕ) (rest : List ℕ) → RpcStands old items at rest → call_refusal (encoder old.terms.encoding) call items ≡ None → is_built call ≡ true
-    → AreMessages (said (Did call) items) → now ≡ with_said (said (Did call) items) (with_table table old) → TableStands false now.table (Did call ∷ items) → Adds old now items at rest (Did call)
-adds old now table call items at rest s accepted built says is t =
-    subst (λ (n : RpcValue). TableStands false n.table (Did call ∷ items) → Adds old n items at rest (Did call)) (sym is)
-    (λ stands. record {
+adds : (old now : RpcValue) (table : TableValue) (sequences : List Sequence) (followed : List Followed) (call : RpcCall) (items : List RpcItem) (at : ℕ) (rest : List ℕ) → RpcStands old items at rest
+    → call_refusal (encoder old.terms.encoding) call items ≡ None → is_built call ≡ true → AreMessages (said (Did call) items)
+    → now ≡ with_said (said (Did call) items) (with_consumer followed (with_producer sequences (with_table table old))) → KeepsFor now (Did call ∷ items) → Adds old now items at rest (Did call)
+adds old now table sequences followed call items at rest s accepted built says is keeps =
+    subst (λ (n : RpcValue). KeepsFor n (Did call ∷ items) → Adds old n items at rest (Did call)) (sym is)
+    (λ kept. record {
       stands = record {
-        table = stands;
+        table = kept.table;
+        producer = kept.producer;
+        consumer = kept.consumer;
         at_is = s.at_is;
         rest_is = s.rest_is;
         state = s.state;
@@ -116,21 +107,25 @@ adds old now table call items at rest s accepted built says is t =
       };
       output = refl;
       terms_stay = refl;
-    }) t
+    }) keeps
 
-module _ {A : Type 0} (old made : RpcValue) (table : TableValue) (call : RpcCall) (items : List RpcItem) (at : ℕ) (rest : List ℕ) (x : A) (IsAnswer : A → Type 0) where
+-- a call says these messages, and what an end keeps becomes this
+abbrev pub MakesItem : {A : Type 0} → (old made : RpcValue) → TableValue → List Sequence → List Followed → (early late : Option Refusal) → List Message → A → Result A CallFault → Type 0
+MakesItem old made table sequences followed early late messages x given = Makes old made early late (with_said messages (with_consumer followed (with_producer sequences (with_table table old)))) x given
+
+module _ {A : Type 0} (old made : RpcValue) (table : TableValue) (sequences : List Sequence) (followed : List Followed) (call : RpcCall) (items : List RpcItem) (at : ℕ) (rest : List ℕ) (x : A) (IsAnswer : A → Type 0) where
   answered : (early late : Option Refusal) (given : Result A CallFault) → RpcStands old items at rest → is_built call ≡ true → call_refusal (encoder old.terms.encoding) call items ≡ or_else early late
-      → OnOk given (AreMessages (said (Did call) items)) → OnOk given (TableStands false made.table (Did call ∷ items)) → IsAnswer x → Makes old made early late (with_said (said (Did call) items) (with_table table old)) x given
+      → OnOk given (AreMessages (said (Did call) items)) → OnOk given (KeepsFor made (Did call ∷ items)) → IsAnswer x → MakesItem old made table sequences followed early late (said (Did call) items) x given
       → CallAnswers old (finished given made) items at rest call (or_else early late) early IsAnswer given
-  answered None None (Ok y) s built law says stands answer makes = (adds old made table call items at rest s law built says makes.0 stands, subst IsAnswer (sym makes.1) answer)
-  answered None None (Err fault.OutOfMemory) s built law says stands answer makes = refl
-  answered None None (Err (fault.Refused r)) s built law says stands answer makes = absurd makes
-  answered None (Some t) (Ok y) s built law says stands answer makes = absurd makes
-  answered None (Some t) (Err fault.OutOfMemory) s built law says stands answer makes = refl
-  answered None (Some t) (Err (fault.Refused r)) s built law says stands answer makes = makes
-  answered (Some t) late (Ok y) s built law says stands answer makes = absurd makes
-  answered (Some t) late (Err fault.OutOfMemory) s built law says stands answer makes = absurd makes
-  answered (Some t) late (Err (fault.Refused r)) s built law says stands answer makes = makes
+  answered None None (Ok y) s built law says keeps answer makes = (adds old made table sequences followed call items at rest s law built says makes.0 keeps, subst IsAnswer (sym makes.1) answer)
+  answered None None (Err fault.OutOfMemory) s built law says keeps answer makes = refl
+  answered None None (Err (fault.Refused r)) s built law says keeps answer makes = absurd makes
+  answered None (Some t) (Ok y) s built law says keeps answer makes = absurd makes
+  answered None (Some t) (Err fault.OutOfMemory) s built law says keeps answer makes = refl
+  answered None (Some t) (Err (fault.Refused r)) s built law says keeps answer makes = makes
+  answered (Some t) late (Ok y) s built law says keeps answer makes = absurd makes
+  answered (Some t) late (Err fault.OutOfMemory) s built law says keeps answer makes = absurd makes
+  answered (Some t) late (Err (fault.Refused r)) s built law says keeps answer makes = makes
 
 no_end : (cause : Option Cause) (s : EndState) → s ≡ state_by cause → running_refusal s ≡ None → cause ≡ None
 no_end None s e running = refl
@@ -141,23 +136,70 @@ on_running false None other now p e = refl
 on_running false (Some cause) other now p e = absurd cc
 on_running true cause other now p e = absurd cc
 
-module _ {A : Type 0} (old made : RpcValue) (table : TableValue) (call : RpcCall) (items : List RpcItem) (at : ℕ) (rest : List ℕ) (x : A) (IsAnswer : A → Type 0) where
+-- an end that stands for items and runs has not ended
+pub runs_on : (old : RpcValue) (items : List RpcItem) (at : ℕ) (rest : List ℕ) → RpcStands old items at rest → running_refusal old.state ≡ None → is_running items ≡ true
+runs_on old items at rest s running = ap is_none (no_end (ended items) old.state s.state running)
+
+module _ {A : Type 0} (old made : RpcValue) (table : TableValue) (sequences : List Sequence) (followed : List Followed) (call : RpcCall) (items : List RpcItem) (at : ℕ) (rest : List ℕ) (x : A) (IsAnswer : A → Type 0) where
   -- what a call of a running end makes answers it, once an end stops where memory ran out
-  pub call_answers : (new : RpcValue) (early : Option Refusal) (messages : List Message) (given result : Result A CallFault) → RpcStands old items at rest → running_refusal old.state ≡ None → is_of_the_past call ≡ false → is_built call ≡ true
-      → early ≡ state_refusal call items → messages ≡ said (Did call) items → said_refusal (encoder old.terms.encoding) call items ≡ first_refusal (encoder old.terms.encoding) (said (Did call) items)
-      → OnOk given (AreMessages messages) → OnOk given (TableStands false made.table (Did call ∷ items)) → IsAnswer x → Calls old made early messages table x given → result ≡ given → new ≡ finished given made → Answers old new items at rest call IsAnswer result
-  call_answers new early messages given result s running past built early_is says late_is fine stands answer calls same finish =
+  pub item_answers : (new : RpcValue) (early late : Option Refusal) (messages : List Message) (given result : Result A CallFault) → RpcStands old items at rest → running_refusal old.state ≡ None → is_of_the_past call ≡ false → is_built call ≡ true
+      → early ≡ state_refusal call items → messages ≡ said (Did call) items → late ≡ said_refusal (encoder old.terms.encoding) call items
+      → OnOk given (AreMessages messages) → OnOk given (KeepsFor made (Did call ∷ items)) → IsAnswer x → MakesItem old made table sequences followed early late messages x given
+      → result ≡ given → new ≡ finished given made → Answers old new items at rest call IsAnswer result
+  item_answers new early late messages given result s running past built early_is says late_is fine keeps answer makes same finish =
       let k : Encoder = encoder old.terms.encoding in
-      let late : Option Refusal = first_refusal k (said (Did call) items) in
       let none = no_end (ended items) old.state s.state running in
-      let law : call_refusal k call items ≡ or_else early late = on_running (is_of_the_past call) (ended items) _ _ past none ∙ (λ i. or_else (sym early_is i) (late_is i)) in
+      let law : call_refusal k call items ≡ or_else early late = on_running (is_of_the_past call) (ended items) _ _ past none ∙ (λ i. or_else (sym early_is i) (sym late_is i)) in
       let early_law : early_refusal call items ≡ early = on_running (is_of_the_past call) (ended items) _ _ past none ∙ sym early_is in
-      let makes = subst (λ (m : List Message). Makes old made early (first_refusal k m) (with_said m (with_table table old)) x given) says calls in
+      let made_item = subst (λ (m : List Message). MakesItem old made table sequences followed early late m x given) says makes in
       subst (λ (r : Result A CallFault). Answers old new items at rest call IsAnswer r) (sym same)
       (subst (λ (n : RpcValue). Answers old n items at rest call IsAnswer given) (sym finish)
       (subst (λ (o : Option Refusal). CallAnswers old (finished given made) items at rest call o (early_refusal call items) IsAnswer given) (sym law)
       (subst (λ (o : Option Refusal). CallAnswers old (finished given made) items at rest call (or_else early late) o IsAnswer given) (sym early_law)
-      (answered old made table call items at rest x IsAnswer early late given s built law (subst (λ (m : List Message). OnOk given (AreMessages m)) says fine) stands answer makes))))
+      (answered old made table sequences followed call items at rest x IsAnswer early late given s built law (subst (λ (m : List Message). OnOk given (AreMessages m)) says fine) keeps answer made_item))))
+
+pub when_ok : {A P Q : Type 0} (given : Result A CallFault) → (P → Q) → OnOk given P → OnOk given Q
+when_ok (Ok y) f p = f p
+when_ok (Err e) f p = tt
+
+pub both_ok : {A : Type 0} (P Q : Type 0) (given : Result A CallFault) → OnOk given (P → Q) → OnOk given P → OnOk given Q
+both_ok P Q (Ok y) f p = f p
+both_ok P Q (Err e) f p = tt
+
+-- a call that is said makes this of the end, and wasn't refused
+pub made_so : {A : Type 0} (old made now : RpcValue) (early late : Option Refusal) (x : A) (given : Result A CallFault) → Makes old made early late now x given → OnOk given (made ≡ now)
+made_so old made now early late x (Err e) makes = tt
+made_so old made now None None x (Ok y) makes = makes.0
+made_so old made now None (Some t) x (Ok y) makes = absurd makes
+made_so old made now (Some t) late x (Ok y) makes = absurd makes
+
+pub unrefused : {A : Type 0} (old made now : RpcValue) (early late : Option Refusal) (x : A) (given : Result A CallFault) → Makes old made early late now x given → OnOk given (early ≡ None)
+unrefused old made now early late x (Err e) makes = tt
+unrefused old made now None late x (Ok y) makes = refl
+unrefused old made now (Some t) late x (Ok y) makes = absurd makes
+
+-- a call that draws no token and asks for no page leaves sequences as they are
+pub sequences_stay : (old made : RpcValue) (call : RpcCall) (items : List RpcItem) (at : ℕ) (rest : List ℕ) → produced_by (Did call) ≡ [] → is_page_call call ≡ false → RpcStands old items at rest
+    → made.producer ≡ old.producer → made.consumer ≡ old.consumer → TableStands false made.table (Did call ∷ items) → KeepsFor made (Did call ∷ items)
+sequences_stay old made call items at rest draws asks s producer consumer t = record {
+  table = t;
+  producer = subst (λ (sequences : List Sequence). ProducerStands sequences (Did call ∷ items)) (sym producer) (call_leaves_producer old.producer call items draws s.producer);
+  consumer = subst (λ (followed : List Followed). ConsumerStands followed (Did call ∷ items)) (sym consumer) (call_leaves_consumer old.consumer call items asks s.consumer);
+}
+
+module _ {A : Type 0} (old made : RpcValue) (table : TableValue) (call : RpcCall) (items : List RpcItem) (at : ℕ) (rest : List ℕ) (x : A) (IsAnswer : A → Type 0) where
+  -- the same of a call that draws no token and asks for no page
+  pub call_answers : (new : RpcValue) (early : Option Refusal) (messages : List Message) (given result : Result A CallFault) → RpcStands old items at rest → running_refusal old.state ≡ None → is_of_the_past call ≡ false → is_built call ≡ true
+      → produced_by (Did call) ≡ [] → is_page_call call ≡ false
+      → early ≡ state_refusal call items → messages ≡ said (Did call) items → said_refusal (encoder old.terms.encoding) call items ≡ first_refusal (encoder old.terms.encoding) (said (Did call) items)
+      → OnOk given (AreMessages messages) → OnOk given (TableStands false made.table (Did call ∷ items)) → IsAnswer x → Calls old made early messages table x given → result ≡ given → new ≡ finished given made → Answers old new items at rest call IsAnswer result
+  call_answers new early messages given result s running past built draws asks early_is says late_is fine stands answer calls same finish =
+      let k : Encoder = encoder old.terms.encoding in
+      let late : first_refusal k messages ≡ said_refusal k call items = ap (first_refusal k) says ∙ sym late_is in
+      let is = made_so old made (with_said messages (with_table table old)) early (first_refusal k messages) x given calls in
+      let keeps = both_ok (TableStands false made.table (Did call ∷ items)) (KeepsFor made (Did call ∷ items)) given
+      (when_ok given (λ (e : made ≡ with_said messages (with_table table old)). sequences_stay old made call items at rest draws asks s (ap (λ (n : RpcValue). n.producer) e) (ap (λ (n : RpcValue). n.consumer) e)) is) stands in
+      item_answers old made table old.producer old.consumer call items at rest x IsAnswer new early (first_refusal k messages) messages given result s running past built early_is says late fine keeps answer calls same finish
 
 -- no call changes how an end writes and reads
 makes_terms : {A : Type 0} (old made now : RpcValue) (early late : Option Refusal) (x : A) (given : Result A CallFault) → now.terms ≡ old.terms → Makes old made early late now x given → made.terms ≡ old.terms
@@ -176,8 +218,11 @@ finished_terms made (Ok y) = refl
 finished_terms made (Err fault.OutOfMemory) = refl
 finished_terms made (Err (fault.Refused r)) = refl
 
+pub made_terms : {A : Type 0} (old made new now : RpcValue) (early late : Option Refusal) (x : A) (given : Result A CallFault) → now.terms ≡ old.terms → Makes old made early late now x given → new ≡ finished given made → new.terms ≡ old.terms
+made_terms old made new now early late x given same makes finish = ap (λ (e : RpcValue). e.terms) finish ∙ (finished_terms made given ∙ makes_terms old made now early late x given same makes)
+
 pub calls_terms : {A : Type 0} (old made new : RpcValue) (early : Option Refusal) (messages : List Message) (table : TableValue) (x : A) (given : Result A CallFault) → Calls old made early messages table x given → new ≡ finished given made → new.terms ≡ old.terms
-calls_terms old made new early messages table x given calls finish = ap (λ (e : RpcValue). e.terms) finish ∙ (finished_terms made given ∙ makes_terms old made _ early _ x given refl calls)
+calls_terms old made new early messages table x given calls finish = made_terms old made new (with_said messages (with_table table old)) early _ x given refl calls finish
 
 -- a call whose text isn't written
 unprepared_by : {A : Type 0} (B : Type 0) (old now : RpcValue) (early late : Option Refusal) (x : A) (error : CallFault) → Prepares {A = B} early late (Err error) → Makes old old early late now x (Err error)
@@ -216,10 +261,6 @@ ask_early method args expect table items p b t =
 pub ask_says : (method : List ℕ) (args : Arguments) (table : TableValue) (items : List RpcItem) → are_built items ≡ true → TableStands false table items → asks_next (length table.requests + 1) method args [] ≡ asks_next (drawn items + 1) method args items
 ask_says method args table items b t = λ i. Request (numbered_id (t.count i + 1)) method (params_of (t.count i + 1) (no_handle items b i) args) ∷ []
 
-when_ok : {A P Q : Type 0} (given : Result A CallFault) → (P → Q) → OnOk given P → OnOk given Q
-when_ok (Ok y) f p = f p
-when_ok (Err e) f p = tt
-
 pub ask_stands : {A : Type 0} (given : Result A CallFault) (method : List ℕ) (args : Arguments) (expect : Expect) (table : TableValue) (items : List RpcItem) → OnOk given (StandsDrawn expect (has_progress_arg (arg_list args)) table items) → OnOk given (TableStands false table (Did (Ask method args expect) ∷ items))
 ask_stands given method args expect table items drawn = when_ok given (λ stands. stands (Ask method args expect) None refl) drawn
 
@@ -232,40 +273,9 @@ tell_early method args items p b =
 pub tell_says : (method : List ℕ) (args : Arguments) (items : List RpcItem) → are_built items ≡ true → said (Did (Tell method args)) [] ≡ said (Did (Tell method args)) items
 tell_says method args items b = λ i. Notification method (params_of 0 (no_handle items b i) args) ∷ []
 
-made_so : {A : Type 0} (old made now : RpcValue) (early late : Option Refusal) (x : A) (given : Result A CallFault) → Makes old made early late now x given → OnOk given (made ≡ now)
-made_so old made now early late x (Err e) makes = tt
-made_so old made now None None x (Ok y) makes = makes.0
-made_so old made now None (Some t) x (Ok y) makes = absurd makes
-made_so old made now (Some t) late x (Ok y) makes = absurd makes
-
 pub tell_stands : {A : Type 0} (old made : RpcValue) (early : Option Refusal) (messages : List Message) (x : A) (given : Result A CallFault) (method : List ℕ) (args : Arguments) (items : List RpcItem) → TableStands false old.table items → Calls old made early messages old.table x given → OnOk given (TableStands false made.table (Did (Tell method args) ∷ items))
 tell_stands old made early messages x given method args items t calls =
     when_ok given (λ is. subst (λ (e : RpcValue). TableStands false e.table (Did (Tell method args) ∷ items)) (sym is) (tell_leaves false old.table method args items t)) (made_so old made _ early _ x given calls)
-
--- responses
-pub reply_early : (id : Id) (given : Answer) (table : TableValue) (items : List RpcItem) → is_plain_answer given ≡ true → TableStands false table items → reply_refusal id given table ≡ state_refusal (Respond id given) items
-reply_early id given table items p t = λ i. if t.waiting id i then plain_reply given items p i else Some refusal.NoRequest
-
--- a response that is said has an id that a value can tell
-was_waiting : (waits : Bool) (refused : Option Refusal) → (if waits then refused else Some refusal.NoRequest) ≡ None → waits ≡ true
-was_waiting true refused e = refl
-was_waiting false refused e = absurd (cc e)
-
-unrefused : {A : Type 0} (old made now : RpcValue) (early late : Option Refusal) (x : A) (given : Result A CallFault) → Makes old made early late now x given → OnOk given (early ≡ None)
-unrefused old made now early late x (Err e) makes = tt
-unrefused old made now None late x (Ok y) makes = refl
-unrefused old made now (Some t) late x (Ok y) makes = absurd makes
-
-both_ok : {A : Type 0} (P Q : Type 0) (given : Result A CallFault) → OnOk given (P → Q) → OnOk given P → OnOk given Q
-both_ok P Q (Ok y) f p = f p
-both_ok P Q (Err e) f p = tt
-
-pub reply_fine : {A : Type 0} (old made : RpcValue) (id : Id) (given : Answer) (messages : List Message) (table : TableValue) (x : A) (result : Result A CallFault) (items : List RpcItem) → TableStands false old.table items → ((i : Id) → is_waiting i items ≡ true → IsNamed i)
-    → Calls old made (reply_refusal id given old.table) messages table x result → OnOk result (IsNamed id → AreMessages messages) → OnOk result (AreMessages messages)
-reply_fine old made id given messages table x result items t named calls fine =
-    both_ok (IsNamed id) (AreMessages messages) result fine
-    (when_ok result (λ free. named id (sym (t.waiting id) ∙ was_waiting (waits_in id old.table) (answer_refusal given []) free))
-    (unrefused old made _ (reply_refusal id given old.table) _ x result calls))
 
 -- reports
 pub report_early : (id token : Id) (value : Tree) (table : TableValue) (items : List RpcItem) → TableStands false table items → unless_there (waits_in id table) ≡ state_refusal (Report id token value) items
@@ -299,7 +309,8 @@ module _ (end : RpcValue) (now : TableValue) (items : List RpcItem) (at : ℕ) (
       let accepted : state_refusal (TakeReport n) items ≡ None = sym law ∙ open_ in
       let made : Takes None n end.table now (Ok report) = subst (λ (o : Option Refusal). Takes o n end.table now (Ok report)) open_ does in
       takes_by (state_refusal (TakeReport n) items) report accepted
-      (adds end (with_table now end) now (TakeReport n) items at rest s accepted refl tt (λ i. record (with_table now end) { output = sym (append-nil end.output) i }) t)
+      (adds end (with_table now end) now end.producer end.consumer (TakeReport n) items at rest s accepted refl tt (λ i. record (with_table now end) { output = sym (append-nil end.output) i })
+      (sequences_stay end (with_table now end) (TakeReport n) items at rest refl refl s refl refl t))
       (taken_as report made (lefts false end.table items n s.table accepted))
 
   not_taken : (refused other : Option Refusal) (r : Refusal) → refused ≡ other → Takes refused n end.table now (Err r) → CallAnswers end (with_table now end) items at rest (TakeReport n) other other IsOldest (Err (fault.Refused r))
@@ -331,7 +342,8 @@ module _ (end : RpcValue) (now : TableValue) (items : List RpcItem) (at : ℕ) (
       let known : is_known (outcome false n items) ≡ true = sym (known_law n end.table items s.table) ∙ there _ end.table now _ does in
       let accepted : state_refusal (Forget n) items ≡ None = ap (λ b. if b then None else Some refusal.NoRequest) known in
       was_there (is_known (outcome false n items)) known
-      (adds end (with_table now end) now (Forget n) items at rest s accepted refl tt (λ i. record (with_table now end) { output = sym (append-nil end.output) i }) t)
+      (adds end (with_table now end) now end.producer end.consumer (Forget n) items at rest s accepted refl tt (λ i. record (with_table now end) { output = sym (append-nil end.output) i })
+      (sequences_stay end (with_table now end) (Forget n) items at rest refl refl s refl refl t))
 
   not_there : (known other : Bool) (next : TableValue) (r : Refusal) → known ≡ other → Does {A = Unit {0}} (unless_there known) end.table now next (Err r)
       → CallAnswers {A = Unit {0}} end (with_table now end) items at rest (Forget n) (if other then None else Some refusal.NoRequest) (if other then None else Some refusal.NoRequest) (λ _. Unit {0}) (Err (fault.Refused r))

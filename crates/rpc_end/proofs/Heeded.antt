@@ -1,89 +1,81 @@
 -- What a message is to an end by what it holds, and by its items.
-use Rattle.std.specs.Prelude.{ℕ, ℤ, pos, negsuc, ◌+◌, List, [], ◌∷◌, ◌++◌, Bool, true, false, not, ◌&&◌, codes, is_none, if◌then◌else◌, Option, Some, None}
+use Rattle.std.specs.Prelude.{ℕ, pos, negsuc, List, [], ◌∷◌, Bool, true, false, ◌&&◌, codes, is_none, if◌then◌else◌, Option, Some, None}
 use Rattle.std.proofs.Common.{◌≡◌, refl, sym, ◌∙◌, ap, subst}
 use Rattle.std.proofs.lemmas.Bool.{and_parts}
-use Rattle.wire_base.specs.Tree.{Tree}
-use Rattle.wire_base.specs.declared.reason.Reason.{Reason}
 use Rattle.wire_base.specs.declared.reason.Reason.TheVariants.{DuplicateRequest}
 use Rattle.wire_base.specs.declared.text.Id.{Id}
 use Rattle.wire_base.specs.declared.text.Id.TheVariants.{Number, Name}
-use Rattle.rpc_items.specs.declared.calls.HandleKey.{HandleKey}
 use Rattle.rpc_items.specs.declared.calls.Outcome.TheVariants.{Replied, Failed}
-use Rattle.rpc_items.specs.declared.calls.RpcEvent.{RpcEvent}
 use Rattle.rpc_items.specs.declared.calls.RpcEvent.TheVariants as event
-use Rattle.rpc_items.specs.declared.calls.Target.TheVariants as target
 use Rattle.rpc_items.specs.declared.messages.Message.{Message}
 use Rattle.rpc_items.specs.declared.messages.Message.TheVariants.{Request, Notification}
 use Rattle.rpc_items.specs.declared.messages.Message.TheVariants as message
 use Rattle.rpc_items.specs.declared.messages.Params.{Params}
 use Rattle.rpc_items.specs.declared.methods.Meaning.{Meaning}
 use Rattle.rpc_items.specs.declared.methods.Meaning.TheVariants.{Serves, Cancels, Reports, Turns, Aborts, Releases, Calls, Mistakes, Unknown}
-use Rattle.rpc_items.specs.Automatic.{automatic, fault, nothing_there, turned}
+use Rattle.rpc_items.specs.Automatic.{automatic, fault, nothing_there}
 use Rattle.rpc_items.specs.Bodies.{body_refusal}
 use Rattle.rpc_items.specs.Drawn.{with_number}
 use Rattle.rpc_items.specs.Events.{answered_event, event_of, handled_event, notification_event, object_target, reported_event, request_event}
 use Rattle.rpc_items.specs.Fitting.{AreWritable, IsNamed}
-use Rattle.rpc_items.specs.Handles.{has_ended, is_live, is_made}
 use Rattle.rpc_items.specs.Items.{RpcItem, Got}
-use Rattle.rpc_items.specs.Made.{Made}
 use Rattle.rpc_items.specs.Meanings.{meaning}
-use Rattle.rpc_items.specs.OwnHandles.{own_live, own_made}
+use Rattle.rpc_items.specs.OwnHandles.{own_made}
 use Rattle.rpc_items.specs.Outcomes.{request_named}
 use Rattle.rpc_items.specs.PeerHandles.{is_service}
-use Rattle.rpc_items.specs.Produced.{Produced, produced_at}
-use Rattle.rpc_items.specs.Producing.{is_aborted, is_open, is_producing, page_count, sequence_named}
 use Rattle.rpc_items.specs.Refusals.{message_refusal}
 use Rattle.rpc_items.specs.Reports.{has_progress, report_by}
 use Rattle.rpc_items.specs.Saying.{said}
 use Rattle.rpc_items.specs.Waiting.{asks, is_waiting}
 use Rattle.rpc_items.specs.Writing.{message_value}
-use Rattle.rpc_items.specs.Items.{is_running}
 use Rattle.rpc_items.proofs.Writing.{automatic_fits}
 use Rattle.message_body.proofs.Lengths.{fair}
 use Rattle.message_body.specs.declared.encoding.Encoding.{Encoding}
 use Rattle.message_body.specs.Written.{encoder}
-use Rattle.call_table.specs.declared.answers.Settled.{Settled}
-use Rattle.call_table.specs.declared.answers.Settled.TheVariants.{First, Stray}
 use Rattle.call_table.specs.declared.entry.Entry.{Entry}
 use Rattle.call_table.specs.Stands.{TableStands}
-use Rattle.call_table.specs.Table.{TableValue, entry_of, heard, named_in, reported_in, settled, settled_by, settled_in, waits_for, waits_in}
+use Rattle.call_table.specs.Table.{TableValue, entry_of, heard, named_in, reported_in, settled, settled_by, settled_in, waits_for}
 use Rattle.call_table.proofs.After.{heard_after, settled_after}
 use Rattle.call_table.proofs.Answering.{reported_stands}
 use Rattle.call_table.proofs.Passing.{nameless_error_leaves, notification_leaves, unasked_leaves}
 use Rattle.call_table.proofs.Reading.{if_progress, names, reports_as}
+use Rattle.enumerables.specs.declared.sequence.Sequence.{Sequence}
+use Rattle.enumerables.specs.Producer.{page_in}
+use Rattle.enumerables.specs.Stands.{ProducerStands}
+use Rattle.enumerables.proofs.Standing.{none_produced}
+use Rattle.sequence_limits.specs.Fitting.{PagesFit}
 use Rattle.rpc_end.specs.Built.{are_built}
 use Rattle.rpc_end.specs.Heeding.{answers_by, broken_by, event_by, extended_by, extension_event, heard_by, notification_event_by, report_event, request_event_by, said_by, settled_event, table_by}
-use Rattle.rpc_end.proofs.Plain.{not_live, unmade, unproduced}
+use Rattle.rpc_end.proofs.Plain.{not_live}
+use Rattle.rpc_end.proofs.Sequences.{page_answer_fits, page_is}
 
 -- answers
 
-unsequenced : (token : Id) (items : List RpcItem) → are_built items ≡ true → sequence_named token items ≡ None
-unsequenced (Number (pos n)) items h = rw (unproduced n items h) refl
-unsequenced (Number (negsuc n)) items h = refl
-unsequenced (Name s) items h = refl
-
-pub automatic_by : (id : Id) (m : Meaning) (items : List RpcItem) → are_built items ≡ true → automatic id m items ≡ answers_by id m
-automatic_by id Serves items h = refl
-automatic_by id (Cancels named) items h = refl
-automatic_by id (Reports token value) items h = refl
-automatic_by id (Turns token) items h = ap (λ (t : Option ℕ). turned id t items) (unsequenced token items h)
-automatic_by id (Aborts token) items h = refl
-automatic_by id (Releases key) items h = refl
-automatic_by id (Calls handle method) items h = ap (λ (b : Bool). if b then [] else fault id nothing_there (codes "no object") ∷ []) (not_live handle items h)
-automatic_by id Mistakes items h = refl
-automatic_by id Unknown items h = refl
+pub automatic_by : (id : Id) (m : Meaning) (sequences : List Sequence) (items : List RpcItem) → ProducerStands sequences items → are_built items ≡ true → automatic id m items ≡ answers_by id m sequences
+automatic_by id Serves sequences items s h = refl
+automatic_by id (Cancels named) sequences items s h = refl
+automatic_by id (Reports token value) sequences items s h = refl
+automatic_by id (Turns token) sequences items s h = page_is id token sequences items s
+automatic_by id (Aborts token) sequences items s h = refl
+automatic_by id (Releases key) sequences items s h = refl
+automatic_by id (Calls handle method) sequences items s h = ap (λ (b : Bool). if b then [] else fault id nothing_there (codes "no object") ∷ []) (not_live handle items h)
+automatic_by id Mistakes sequences items s h = refl
+automatic_by id Unknown sequences items s h = refl
 
 -- an answer that a request gets by itself can be written
-pub answer_fits : (e : Encoding) (id : Id) (m : Meaning) (answer : Message) → IsNamed id → answers_by id m ≡ answer ∷ [] → body_refusal (encoder e) (message_value answer) ≡ None
-answer_fits e id m answer named is =
-    let fits : AreWritable (encoder e) (automatic id m []) = automatic_fits (encoder e) id m [] (fair e) tt named in
-    (subst (λ (ms : List Message). AreWritable (encoder e) ms) (automatic_by id m [] refl ∙ is) fits).0
 
-pub said_is : (place : ℕ) (m : Message) (items : List RpcItem) → are_built items ≡ true → said (Got place m) items ≡ said_by m
-said_is place (Request id method params) items h = automatic_by id (meaning method params) items h
-said_is place (Notification method params) items h = refl
-said_is place (message.Result id value) items h = refl
-said_is place (message.Error id code text more) items h = refl
+all_fit : (e : Encoding) (id : Id) (m : Meaning) (sequences : List Sequence) → PagesFit (encoder e) sequences → IsNamed id → AreWritable (encoder e) (answers_by id m sequences)
+all_fit e id (Turns token) sequences fit named = (page_answer_fits e id token sequences (page_in token sequences) refl fit named, tt)
+all_fit e id m sequences fit named = subst (λ (ms : List Message). AreWritable (encoder e) ms) (automatic_by id m [] [] none_produced refl) (automatic_fits (encoder e) id m [] (fair e) tt named)
+
+pub answer_fits : (e : Encoding) (id : Id) (m : Meaning) (sequences : List Sequence) (answer : Message) → PagesFit (encoder e) sequences → IsNamed id → answers_by id m sequences ≡ answer ∷ [] → body_refusal (encoder e) (message_value answer) ≡ None
+answer_fits e id m sequences answer fit named is = (subst (λ (ms : List Message). AreWritable (encoder e) ms) is (all_fit e id m sequences fit named)).0
+
+pub said_is : (place : ℕ) (m : Message) (sequences : List Sequence) (items : List RpcItem) → ProducerStands sequences items → are_built items ≡ true → said (Got place m) items ≡ said_by m sequences
+said_is place (Request id method params) sequences items s h = automatic_by id (meaning method params) sequences items s h
+said_is place (Notification method params) sequences items s h = refl
+said_is place (message.Result id value) sequences items s h = refl
+said_is place (message.Error id code text more) sequences items s h = refl
 
 -- events
 

@@ -1,6 +1,9 @@
 pub mod Answering
+pub mod Responding
 pub mod Named
 pub mod Plain
+pub mod Sequences
 pub mod Heeded
 pub mod Said
+pub mod Sound
 pub mod Stepping

@@ -1,7 +1,6 @@
 -- The ids of requests that bodies say can be answered.
-use Rattle.std.specs.Prelude.{ℕ, ℤ, ◌+◌, ◌-◌, ◌≤◌, ◌==◌, nat_le, List, length, Bool, true, false, codes, not, if◌then◌else◌, Option, Some, None, Result, Ok, Err}
-use Rattle.std.proofs.Common.{◌≡◌, refl, sym, ◌∙◌, ap, subst, inl, inr, arith}
-use Rattle.std.proofs.lemmas.Bool.{cases_Bool}
+use Rattle.std.specs.Prelude.{ℕ, ◌-◌, nat_le, List, length, Bool, true, false, codes, not, if◌then◌else◌, Option, Some, None, Result, Ok, Err}
+use Rattle.std.proofs.Common.{◌≡◌, refl, subst}
 use Rattle.wire_base.specs.Tree.{Tree}
 use Rattle.wire_base.specs.Tree as tree
 use Rattle.wire_base.specs.declared.reason.Reason.{Reason}
@@ -11,12 +10,11 @@ use Rattle.wire_base.specs.declared.text.Id.TheVariants.{Number, Name}
 use Rattle.message_body.specs.declared.encoding.Encoding.{Encoding}
 use Rattle.message_body.specs.Found.{at_start, body_in, message_found, value_in}
 use Rattle.rpc_items.specs.declared.messages.Message.{Message}
-use Rattle.rpc_items.specs.declared.messages.Message.TheVariants.{Request, Notification}
 use Rattle.rpc_items.specs.declared.messages.Message.TheVariants as message
 use Rattle.rpc_items.specs.declared.messages.Params.{Params}
 use Rattle.rpc_items.specs.Fitting.{IsNamed}
-use Rattle.rpc_items.specs.Ids.{id_in, id_value, is_id_number, most_id_text}
-use Rattle.rpc_items.specs.Reading.{by_method, call_in, call_with, error_with, id_or_bad, is_version, message_in, optional_id, params_in, required_id, response_with, result_with, unless_nil}
+use Rattle.rpc_items.specs.Ids.{id_in, is_id_number, most_id_text}
+use Rattle.rpc_items.specs.Reading.{by_method, call_with, error_with, id_or_bad, is_version, message_in, optional_id, params_in, required_id, response_with, result_with, unless_nil}
 use Rattle.rpc_items.specs.Values.{member}
 use Rattle.rpc_end.specs.Heeding.{HasId}
 

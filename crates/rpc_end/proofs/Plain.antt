@@ -1,18 +1,16 @@
--- Built calls make no objects and sequences.
-use Rattle.std.specs.Prelude.{ℕ, ◌+◌, ◌-◌, List, [], ◌∷◌, ◌++◌, Bool, true, false, not, ◌&&◌, ◌||◌, ◌==◌, is_some, slice_get, if◌then◌else◌, Option, Some, None}
+-- Built calls make no objects.
+use Rattle.std.specs.Prelude.{ℕ, ◌+◌, ◌-◌, List, [], ◌∷◌, Bool, true, false, not, ◌&&◌, ◌==◌, is_some, slice_get, if◌then◌else◌, Option, Some, None}
 use Rattle.std.specs.List.{list_all}
-use Rattle.std.proofs.Common.{◌≡◌, refl, sym, ◌∙◌, ap, subst}
-use Rattle.std.proofs.lemmas.Bool.{and_parts, cases_Bool}
-use Rattle.wire_base.specs.declared.text.Id.{Id}
+use Rattle.std.proofs.Common.{◌≡◌, refl, ap}
+use Rattle.std.proofs.lemmas.Bool.{and_parts}
 use Rattle.rpc_items.specs.declared.calls.Answer.TheVariants as answer
 use Rattle.rpc_items.specs.declared.calls.Arg.{Arg}
 use Rattle.rpc_items.specs.declared.calls.Arg.TheVariants as arg
 use Rattle.rpc_items.specs.Drawn.{arg_list, drawn, with_number}
-use Rattle.rpc_items.specs.Items.{RpcCall, Ask, Tell, Respond, Cancel, Report, TakeReport, Forget, RpcItem, Did, Got, End}
+use Rattle.rpc_items.specs.Items.{Ask, Tell, Respond, Cancel, Report, TakeReport, Next, Abort, Forget, RpcItem, Did, Got, End}
 use Rattle.rpc_items.specs.Made.{Made, made, made_by, made_in}
 use Rattle.rpc_items.specs.OwnHandles.{own_live, own_made, own_ended}
-use Rattle.rpc_items.specs.Produced.{Produced, produced, produced_at, produced_by}
-use Rattle.rpc_end.specs.Built.{are_built, are_built_args, is_built_arg, is_built_item, is_plain}
+use Rattle.rpc_end.specs.Built.{are_built, is_built_arg, is_built_item}
 
 pub makes_none : (request : Option ℕ) (args : List Arg) → list_all is_built_arg args ≡ true → made_in request args ≡ []
 makes_none request [] h = refl
@@ -20,16 +18,17 @@ makes_none request (arg.Plain value ∷ args) h = makes_none request args h
 makes_none request (arg.Progress ∷ args) h = makes_none request args h
 makes_none request (a ∷ args) h = absurd (cc h)
 
--- no objects
-
 made_by_none : (number : ℕ) (item : RpcItem) → is_built_item item ≡ true → made_by number item ≡ []
-made_by_none number (Did (Ask method args expect)) h = makes_none (Some number) (arg_list args) (and_parts (are_built_args args) (is_plain expect) h).0
+made_by_none number (Did (Ask method args expect)) h = makes_none (Some number) (arg_list args) h
 made_by_none number (Did (Tell method args)) h = makes_none None (arg_list args) h
 made_by_none number (Did (Respond id (answer.Value value))) h = refl
 made_by_none number (Did (Respond id (answer.Fault code text more))) h = refl
+made_by_none number (Did (Respond id (answer.Sequence values page first))) h = refl
 made_by_none number (Did (Cancel n)) h = refl
 made_by_none number (Did (Report id token value)) h = refl
 made_by_none number (Did (TakeReport n)) h = refl
+made_by_none number (Did (Next n)) h = refl
+made_by_none number (Did (Abort n)) h = refl
 made_by_none number (Did (Forget n)) h = refl
 made_by_none number (Did call) h = absurd (cc h)
 made_by_none number (Got place message) h = refl
@@ -53,27 +52,3 @@ unmade number items h = none_at number (made items) (made_none items h)
 
 pub not_live : (number : ℕ) (items : List RpcItem) → are_built items ≡ true → own_live number items ≡ false
 not_live number items h = ap (λ (m : Option Made). is_some m && not (own_ended number items)) (unmade number items h)
-
--- no sequences
-
-produced_by_none : (item : RpcItem) → is_built_item item ≡ true → produced_by item ≡ []
-produced_by_none (Did (Ask method args expect)) h = refl
-produced_by_none (Did (Tell method args)) h = refl
-produced_by_none (Did (Respond id (answer.Value value))) h = refl
-produced_by_none (Did (Respond id (answer.Fault code text more))) h = refl
-produced_by_none (Did (Cancel n)) h = refl
-produced_by_none (Did (Report id token value)) h = refl
-produced_by_none (Did (TakeReport n)) h = refl
-produced_by_none (Did (Forget n)) h = refl
-produced_by_none (Did call) h = absurd (cc h)
-produced_by_none (Got place message) h = refl
-produced_by_none (End cause) h = refl
-
-pub produced_none : (items : List RpcItem) → are_built items ≡ true → produced items ≡ []
-produced_none [] h = refl
-produced_none (item ∷ items) h =
-    let p = and_parts (is_built_item item) (are_built items) h in
-    rw (produced_none items p.1) (produced_by_none item p.0)
-
-pub unproduced : (token : ℕ) (items : List RpcItem) → are_built items ≡ true → produced_at token items ≡ None
-unproduced token items h = none_at token (produced items) (produced_none items h)

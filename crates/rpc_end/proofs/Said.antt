@@ -1,13 +1,14 @@
 -- What an end says are messages of the code, and requests of the peer that wait have ids that a value can tell.
 use Rattle.std.specs.Prelude.{ℕ, ◌+◌, List, [], ◌∷◌, ◌++◌, length, Bool, true, false, nat_le, nat_lt, if◌then◌else◌, Option, Some, None, Result, Ok, Err, OnOk}
-use Rattle.std.proofs.Common.{◌≡◌, refl, sym, ◌∙◌, ap, subst, arith}
+use Rattle.std.proofs.Common.{◌≡◌, refl, ap, subst, arith}
 use Rattle.std.proofs.lemmas.Bool.Decides.{nat_tests}
 use Rattle.call_table.specs.Replies.{full_refusal}
-use Rattle.call_table.specs.Table.{TableValue, waits_in}
+use Rattle.call_table.specs.Table.{TableValue}
+use Rattle.enumerables.specs.declared.sequence.Sequence.{Sequence}
+use Rattle.enumerables.specs.Producer.{page_in}
 use Rattle.message_body.specs.AsRead.{AreMessages, IsMessage}
 use Rattle.rpc_items.specs.declared.calls.Answer.{Answer}
 use Rattle.rpc_items.specs.declared.calls.Answer.TheVariants as answer
-use Rattle.rpc_items.specs.declared.calls.Arguments.{Arguments}
 use Rattle.rpc_items.specs.declared.messages.Message.{Message}
 use Rattle.rpc_items.specs.declared.messages.Message.TheVariants.{Request, Notification}
 use Rattle.rpc_items.specs.declared.messages.Message.TheVariants as message
@@ -17,19 +18,18 @@ use Rattle.rpc_items.specs.Arguments.{most_drawn}
 use Rattle.rpc_items.specs.Bodies.{or_else}
 use Rattle.rpc_items.specs.Fitting.{IsNamed}
 use Rattle.rpc_items.specs.Ids.{numbered_id, same_id, whole_bound}
-use Rattle.rpc_items.specs.Items.{RpcCall, Respond, RpcItem, Did, Got, End}
+use Rattle.rpc_items.specs.Items.{RpcCall, Respond, RpcItem, Did, Got}
 use Rattle.rpc_items.specs.Meanings.{meaning}
 use Rattle.rpc_items.specs.Sayable.{HasNamedId}
-use Rattle.rpc_items.specs.Saying.{all_said, response, said}
+use Rattle.rpc_items.specs.Saying.{response}
 use Rattle.rpc_items.specs.Waiting.{asks, is_waiting}
 use Rattle.rpc_items.proofs.Answering.{same_id_eq}
-use Rattle.wire_base.specs.declared.fault.CallFault.{CallFault}
+use Rattle.wire_base.specs.Tree.{Tree}
 use Rattle.wire_base.specs.declared.refusal.Refusal.{Refusal}
 use Rattle.wire_base.specs.declared.refusal.Refusal.TheVariants as refusal
 use Rattle.wire_base.specs.declared.text.Id.{Id}
-use Rattle.wire_base.specs.declared.text.Id.TheVariants.{Number, Name}
 use Rattle.rpc_end.specs.Built.{is_plain_answer}
-use Rattle.rpc_end.specs.Heeding.{HasId, answers_by}
+use Rattle.rpc_end.specs.Heeding.{HasId, answers_by, page_answer}
 
 -- messages behind messages
 pub both_messages : (older newer : List Message) → AreMessages older → AreMessages newer → AreMessages (older ++ newer)
@@ -75,13 +75,17 @@ response_named id (answer.Sequence values page first) p named = absurd (cc p)
 one_named : (x answer : Message) → HasNamedId x → x ∷ [] ≡ answer ∷ [] → HasNamedId answer
 one_named x answer h e = let same : x ≡ answer = cc in subst (λ (m : Message). HasNamedId m) same h
 
-pub answer_named : (id : Id) (m : Meaning) (answer : Message) → IsNamed id → answers_by id m ≡ answer ∷ [] → HasNamedId answer
-answer_named id Serves answer named e = absurd (cc e)
-answer_named id (Turns token) answer named e = one_named _ answer named e
-answer_named id (Calls handle method) answer named e = one_named _ answer named e
-answer_named id Mistakes answer named e = one_named _ answer named e
-answer_named id Unknown answer named e = one_named _ answer named e
-answer_named id m answer named e = one_named _ answer named e
+page_named : (id : Id) (page : Option Tree) → IsNamed id → HasNamedId (page_answer id page)
+page_named id (Some page) named = named
+page_named id None named = named
+
+pub answer_named : (id : Id) (m : Meaning) (sequences : List Sequence) (answer : Message) → IsNamed id → answers_by id m sequences ≡ answer ∷ [] → HasNamedId answer
+answer_named id Serves sequences answer named e = absurd (cc e)
+answer_named id (Turns token) sequences answer named e = one_named _ answer (page_named id (page_in token sequences) named) e
+answer_named id (Calls handle method) sequences answer named e = one_named _ answer named e
+answer_named id Mistakes sequences answer named e = one_named _ answer named e
+answer_named id Unknown sequences answer named e = one_named _ answer named e
+answer_named id m sequences answer named e = one_named _ answer named e
 
 -- requests of the peer that wait
 

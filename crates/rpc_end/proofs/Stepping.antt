@@ -1,39 +1,40 @@
 -- What a running end makes of what arrives.
-use Rattle.std.specs.Prelude.{ℕ, ◌+◌, ◌<◌, ◌≤◌, List, [], ◌∷◌, ◌++◌, length, take, drop, Bool, true, false, Option, Some, None, is_none, Result, Ok, Err}
-use Rattle.std.proofs.Common.{◌≡◌, refl, sym, ◌∙◌, ap, subst, arith, length-drop}
+use Rattle.std.specs.Prelude.{ℕ, ◌+◌, ◌<◌, ◌≤◌, List, [], ◌++◌, length, nat_lt, take, drop, Bool, true, Option, Some, None, is_none, Result, Ok, Err}
+use Rattle.std.proofs.Common.{◌≡◌, refl, sym, ◌∙◌, ap, ap₂, subst, arith, length-drop}
 use Rattle.std.proofs.lemmas.List.{append-nil}
 use Rattle.wire_base.specs.declared.reason.Reason.{Reason}
 use Rattle.wire_base.specs.declared.state.Cause.{Cause}
+use Rattle.wire_base.specs.declared.state.Cause.TheVariants.{Spent}
+use Rattle.wire_base.specs.declared.state.EndState.{EndState}
 use Rattle.wire_base.specs.declared.state.EndState.TheVariants as state
 use Rattle.message_body.specs.AsRead.{AreMessages}
 use Rattle.message_body.specs.Found.{body_in}
-use Rattle.message_body.specs.Written.{encoder}
 use Rattle.message_framing.specs.declared.front.Front.{Front}
 use Rattle.message_framing.specs.declared.front.Front.TheVariants as fronts
 use Rattle.message_framing.specs.Front.{front}
 use Rattle.message_framing.proofs.FrontLemmas.{whole_within}
 use Rattle.rpc_items.specs.declared.calls.RpcEvent.{RpcEvent}
 use Rattle.rpc_items.specs.declared.messages.Message.{Message}
-use Rattle.rpc_items.specs.Allowed.{AreAllowed}
-use Rattle.rpc_items.specs.Events.{event_of}
 use Rattle.rpc_items.specs.Items.{RpcItem, Got, End, ended}
 use Rattle.rpc_items.specs.Refusals.{message_refusal}
 use Rattle.rpc_items.specs.Saying.{all_said, said}
 use Rattle.rpc_items.specs.declared.calls.Outcome.TheVariants.{Lost}
 use Rattle.call_table.specs.Table.{over}
 use Rattle.call_table.proofs.After.{lost_after}
+use Rattle.enumerables.specs.Producer.{all_ended}
+use Rattle.enumerables.proofs.After.{ended_after, over_after}
 use Rattle.rpc_end.specs.declared.step.RpcStep.{RpcStep}
 use Rattle.rpc_end.specs.declared.step.RpcStep.TheVariants as step
-use Rattle.rpc_end.specs.declared.terms.Terms.{Terms}
-use Rattle.rpc_end.specs.Arrivals.{Arrival, Applies, Waits, Refuses, allowed_arrival, arrival, body_arrival, front_arrival}
+use Rattle.rpc_end.specs.Arrivals.{Arrival, Refuses, allowed_arrival, arrival, body_arrival, front_arrival}
 use Rattle.rpc_end.specs.Ends.{with_applied, with_end}
-use Rattle.rpc_end.specs.Heeding.{HasId, Steps, body_arrives, broken_by, event_by, front_arrives, message_arrives, said_by, with_heeded}
-use Rattle.rpc_end.specs.Replies.{Adds, StepAnswers, refused_at}
+use Rattle.rpc_end.specs.Heeding.{HasId, Steps, body_arrives, broken_by, front_arrives, said_by, with_heeded}
+use Rattle.rpc_end.specs.Replies.{Adds, EndsBy, FeedAnswers, StepAnswers, is_spent, most_fed, refused_at}
 use Rattle.rpc_end.specs.Stands.{RpcValue, RpcStands, state_by}
 use Rattle.rpc_end.specs.Texts.{message_texts}
 use Rattle.rpc_end.proofs.Heeded.{broken_is, event_is, said_is, table_stands}
 use Rattle.rpc_end.proofs.Named.{has_id}
 use Rattle.rpc_end.proofs.Said.{both_messages, named_then}
+use Rattle.rpc_end.proofs.Sequences.{consumer_stands, producer_stands}
 
 -- an end that runs stands for items with no end
 runs : (cause : Option Cause) → state.Running ≡ state_by cause → cause ≡ None
@@ -69,6 +70,8 @@ module _ (old : RpcValue) (items : List RpcItem) (at : ℕ) (rest : List ℕ) (s
   ended_adds c = record {
     stands = record {
       table = lost_after old.table (over Lost old.table) items c refl s.table;
+      producer = ended_after c old.producer (all_ended old.producer) items refl s.producer;
+      consumer = over_after c old.consumer [] items refl s.consumer;
       at_is = s.at_is;
       rest_is = s.rest_is;
       state = refl;
@@ -84,21 +87,33 @@ module _ (old : RpcValue) (items : List RpcItem) (at : ℕ) (rest : List ℕ) (s
   ends : (new : RpcValue) (c : Cause) → new ≡ with_end c old → Adds old new items at rest (End c)
   ends new c is = subst (λ (n : RpcValue). Adds old n items at rest (End c)) (sym is) (ended_adds c)
 
+  pub ends_by : (new : RpcValue) (c : Cause) → new ≡ with_end c old → EndsBy old new items at rest c (ended items)
+  ends_by new c is = subst (λ (o : Option Cause). EndsBy old new items at rest c o) (sym going) (ends new c is)
+
+  -- more was fed than may be
+  pub ends_spent : (new : RpcValue) (piece : List ℕ) (now : EndState) → nat_lt most_fed (old.at + length old.rest + length piece) ≡ true → now ≡ new.state → new ≡ with_end Spent old → FeedAnswers old new items at rest piece (ended items) (is_spent at rest piece) (Ok now)
+  ends_spent new piece now spent state_is is =
+      let too_much : is_spent at rest piece ≡ true = sym (ap₂ (λ (n : ℕ) (bytes : List ℕ). nat_lt most_fed (n + length bytes + length piece)) s.at_is s.rest_is) ∙ spent in
+      subst (λ (o : Option Cause). FeedAnswers old new items at rest piece o (is_spent at rest piece) (Ok now)) (sym going)
+      (subst (λ (b : Bool). FeedAnswers old new items at rest piece None b (Ok now)) (sym too_much) (state_is ∙ ap (λ (e : RpcValue). e.state) is, ends new Spent is))
+
   -- a message that no rule refuses
 
-  applied : (place size : ℕ) (m : Message) → message_refusal m items ≡ None → HasId m → AreMessages (said_by m) → Adds old (with_applied size (with_heeded m old)) items (at + size) (drop size rest) (Got place m)
+  applied : (place size : ℕ) (m : Message) → message_refusal m items ≡ None → HasId m → AreMessages (said_by m old.producer) → Adds old (with_applied size (with_heeded m old)) items (at + size) (drop size rest) (Got place m)
   applied place size m ok has says = record {
     stands = record {
       table = table_stands old.table items s.table s.built place m ok;
+      producer = producer_stands old.producer items s.producer place m;
+      consumer = consumer_stands old.table old.consumer items s.table s.consumer place m;
       at_is = ap (λ n. n + size) s.at_is;
       rest_is = ap (drop size) s.rest_is;
       state = s.state;
       allowed = ((running, ok), s.allowed);
       built = s.built;
-      said = both_messages (all_said items) (said (Got place m) items) s.said (subst AreMessages (sym (said_is place m items s.built)) says);
+      said = both_messages (all_said items) (said (Got place m) items) s.said (subst AreMessages (sym (said_is place m old.producer items s.producer s.built)) says);
       named = named_then place m items has s.named;
     };
-    output = ap (λ (ms : List Message). old.output ++ message_texts old.terms ms) (sym (said_is place m items s.built));
+    output = ap (λ (ms : List Message). old.output ++ message_texts old.terms ms) (sym (said_is place m old.producer items s.producer s.built));
     terms_stay = refl;
   }
 

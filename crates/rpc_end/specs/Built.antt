@@ -1,5 +1,5 @@
--- Calls that are built: with arguments that are values or progress, for plain results, and answers that are values or errors.
-use Rattle.std.specs.Prelude.{ℕ, List, Bool, true, false, ◌&&◌}
+-- Calls that are built: with arguments that are values or progress, and answers that are values, errors or sequences.
+use Rattle.std.specs.Prelude.{ℕ, List, Bool, true, false}
 use Rattle.std.specs.List.{list_all}
 use Rattle.wire_base.specs.Tree.{Tree}
 use Rattle.rpc_items.specs.declared.calls.Answer.{Answer}
@@ -7,11 +7,9 @@ use Rattle.rpc_items.specs.declared.calls.Answer.TheVariants as answer
 use Rattle.rpc_items.specs.declared.calls.Arg.{Arg}
 use Rattle.rpc_items.specs.declared.calls.Arg.TheVariants as arg
 use Rattle.rpc_items.specs.declared.calls.Arguments.{Arguments}
-use Rattle.rpc_items.specs.declared.calls.Expect.{Expect}
-use Rattle.rpc_items.specs.declared.calls.Expect.TheVariants.{Plain, Sequence}
 use Rattle.rpc_items.specs.Drawn.{arg_list}
 use Rattle.rpc_items.specs.Ids.{count_value}
-use Rattle.rpc_items.specs.Items.{RpcCall, Ask, Tell, Respond, Cancel, Report, TakeReport, Forget, RpcItem, Did}
+use Rattle.rpc_items.specs.Items.{RpcCall, Ask, Tell, Respond, Cancel, Report, TakeReport, Next, Abort, Forget, RpcItem, Did}
 
 -- whether an argument is a value, or asks for progress
 abbrev pub is_built_arg : Arg → Bool
@@ -33,25 +31,27 @@ abbrev pub arg_value : ℕ → Arg → Tree
 arg_value n (arg.Plain value) = value
 arg_value n a = count_value n
 
--- whether a result is to be a value
-abbrev pub is_plain : Expect → Bool
-is_plain Plain = true
-is_plain Sequence = false
-
 -- whether an answer is a value or an error
 abbrev pub is_plain_answer : Answer → Bool
 is_plain_answer (answer.Value value) = true
 is_plain_answer (answer.Fault code text more) = true
 is_plain_answer a = false
 
+-- whether an answer is a value, an error or a sequence
+abbrev pub is_built_answer : Answer → Bool
+is_built_answer (answer.Object object) = false
+is_built_answer a = true
+
 -- whether a call is built
 abbrev pub is_built : RpcCall → Bool
-is_built (Ask method args expect) = are_built_args args && is_plain expect
+is_built (Ask method args expect) = are_built_args args
 is_built (Tell method args) = are_built_args args
-is_built (Respond id answer) = is_plain_answer answer
+is_built (Respond id answer) = is_built_answer answer
 is_built (Cancel n) = true
 is_built (Report id token value) = true
 is_built (TakeReport n) = true
+is_built (Next n) = true
+is_built (Abort n) = true
 is_built (Forget n) = true
 is_built call = false
 

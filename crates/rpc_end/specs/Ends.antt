@@ -1,6 +1,9 @@
 -- What calls and messages make of an end.
-use Rattle.std.specs.Prelude.{◌≡◌, ℕ, ◌+◌, List, ◌++◌, drop, Option, Some, None, Result, Ok, Err}
+use Rattle.std.specs.Prelude.{◌≡◌, ℕ, ◌+◌, List, [], ◌++◌, drop, Option, Some, None, Result, Ok, Err}
 use Rattle.call_table.specs.Table.{TableValue, over}
+use Rattle.enumerables.specs.declared.followed.Followed.{Followed}
+use Rattle.enumerables.specs.declared.sequence.Sequence.{Sequence}
+use Rattle.enumerables.specs.Producer.{all_ended}
 use Rattle.message_framing.specs.Unread.{Unread}
 use Rattle.rpc_items.specs.declared.calls.Outcome.TheVariants.{Lost, Starved}
 use Rattle.rpc_items.specs.declared.messages.Message.{Message}
@@ -15,14 +18,21 @@ use Rattle.rpc_end.specs.Stands.{RpcValue}
 use Rattle.rpc_end.specs.Texts.{message_texts}
 
 -- an end by what it holds
-abbrev pub value_in : Terms → TableValue → (output : List ℕ) → Unread → EndState → RpcValue
-value_in terms table output reader state = record { terms = terms; table = table; output = output; at = reader.at; rest = reader.rest; state = state }
+abbrev pub value_in : Terms → TableValue → List Sequence → List Followed → (output : List ℕ) → Unread → EndState → RpcValue
+value_in terms table producer consumer output reader state =
+    record { terms = terms; table = table; producer = producer; consumer = consumer; output = output; at = reader.at; rest = reader.rest; state = state }
 
 abbrev pub with_output : List ℕ → RpcValue → RpcValue
 with_output bytes end = record end { output = bytes }
 
 abbrev pub with_table : TableValue → RpcValue → RpcValue
 with_table table end = record end { table = table }
+
+abbrev pub with_producer : List Sequence → RpcValue → RpcValue
+with_producer sequences end = record end { producer = sequences }
+
+abbrev pub with_consumer : List Followed → RpcValue → RpcValue
+with_consumer followed end = record end { consumer = followed }
 
 abbrev pub with_rest : List ℕ → RpcValue → RpcValue
 with_rest bytes end = record end { rest = bytes }
@@ -35,9 +45,9 @@ with_said messages end = record end { output = end.output ++ message_texts end.t
 abbrev pub with_applied : ℕ → RpcValue → RpcValue
 with_applied size end = record end { at = end.at + size; rest = drop size end.rest }
 
--- the end: requests without a response are lost
+-- the end: requests without a response are lost, and no sequence goes on
 abbrev pub with_end : Cause → RpcValue → RpcValue
-with_end cause end = record end { table = over Lost end.table; state = state.Ended cause }
+with_end cause end = record end { table = over Lost end.table; producer = all_ended end.producer; consumer = []; state = state.Ended cause }
 
 -- want of memory: requests without a response are starved
 abbrev pub with_stop : RpcValue → RpcValue

@@ -1,8 +1,12 @@
--- What messages are to a running end without objects and sequences, by what it holds.
-use Rattle.std.specs.Prelude.{◌≡◌, ℕ, ◌+◌, List, [], ◌∷◌, ◌++◌, take, drop, codes, if◌then◌else◌, Option, Some, None, Result, Ok, Err}
+-- What messages are to a running end without objects, by what it holds.
+use Rattle.std.specs.Prelude.{◌≡◌, ℕ, ◌+◌, List, [], ◌∷◌, take, drop, codes, if◌then◌else◌, Option, Some, None, Result, Ok, Err}
 use Rattle.call_table.specs.Table.{TableValue, heard, reported, reported_in, settled, settled_in, waits_in}
 use Rattle.call_table.specs.declared.answers.Settled.{Settled}
 use Rattle.call_table.specs.declared.answers.Settled.TheVariants.{First, Stray}
+use Rattle.enumerables.specs.declared.followed.Followed.{Followed}
+use Rattle.enumerables.specs.declared.sequence.Sequence.{Sequence}
+use Rattle.enumerables.specs.Consumer.{settled as followed_then}
+use Rattle.enumerables.specs.Producer.{given_up, page_in, turned}
 use Rattle.message_body.specs.AsRead.{AreMessages}
 use Rattle.message_body.specs.Found.{body_in}
 use Rattle.message_framing.specs.declared.front.Front.{Front}
@@ -17,10 +21,11 @@ use Rattle.rpc_items.specs.declared.messages.Message.TheVariants.{Request, Notif
 use Rattle.rpc_items.specs.declared.messages.Message.TheVariants as message
 use Rattle.rpc_items.specs.declared.messages.Params.{Params}
 use Rattle.rpc_items.specs.declared.methods.Meaning.{Meaning}
-use Rattle.rpc_items.specs.declared.methods.Meaning.TheVariants.{Serves, Cancels, Reports, Turns, Calls, Mistakes, Unknown}
+use Rattle.rpc_items.specs.declared.methods.Meaning.TheVariants.{Serves, Cancels, Reports, Turns, Aborts, Calls, Mistakes, Unknown}
 use Rattle.rpc_items.specs.Automatic.{bad_arguments, done, fault, no_method, nothing_there}
 use Rattle.rpc_items.specs.Fitting.{IsNamed}
 use Rattle.rpc_items.specs.Meanings.{meaning}
+use Rattle.wire_base.specs.Tree.{Tree}
 use Rattle.wire_base.specs.declared.reason.Reason.{Reason}
 use Rattle.wire_base.specs.declared.reason.Reason.TheVariants.{DuplicateRequest}
 use Rattle.wire_base.specs.declared.state.EndState.TheVariants as state
@@ -28,7 +33,7 @@ use Rattle.wire_base.specs.declared.text.Id.{Id}
 use Rattle.rpc_end.specs.declared.step.RpcStep.{RpcStep}
 use Rattle.rpc_end.specs.declared.step.RpcStep.TheVariants as step
 use Rattle.rpc_end.specs.Arrivals.{Arrival, Applies, Waits, Refuses, allowed_arrival}
-use Rattle.rpc_end.specs.Ends.{with_applied, with_end, with_said, with_table}
+use Rattle.rpc_end.specs.Ends.{with_applied, with_consumer, with_end, with_producer, with_said, with_table}
 use Rattle.rpc_end.specs.Replies.{refused_at}
 use Rattle.rpc_end.specs.Stands.{RpcValue}
 
@@ -75,19 +80,24 @@ event_by (Notification method params) table = notification_event_by (meaning met
 event_by (message.Result id value) table = settled_event (settled_in id table)
 event_by (message.Error id code text more) table = named_event id table
 
+-- the answer to a request for a page: the page that there is, or that there is none
+abbrev pub page_answer : Id → Option Tree → Message
+page_answer id (Some page) = message.Result id page
+page_answer id None = fault id nothing_there (codes "no sequence")
+
 -- the answer that a request gets by itself
-abbrev pub answers_by : Id → Meaning → List Message
-answers_by id Serves = []
-answers_by id (Turns token) = fault id nothing_there (codes "no sequence") ∷ []
-answers_by id (Calls handle method) = fault id nothing_there (codes "no object") ∷ []
-answers_by id Mistakes = fault id bad_arguments (codes "bad arguments") ∷ []
-answers_by id Unknown = fault id no_method (codes "no method") ∷ []
-answers_by id meaning = done id ∷ []
+abbrev pub answers_by : Id → Meaning → List Sequence → List Message
+answers_by id Serves sequences = []
+answers_by id (Turns token) sequences = page_answer id (page_in token sequences) ∷ []
+answers_by id (Calls handle method) sequences = fault id nothing_there (codes "no object") ∷ []
+answers_by id Mistakes sequences = fault id bad_arguments (codes "bad arguments") ∷ []
+answers_by id Unknown sequences = fault id no_method (codes "no method") ∷ []
+answers_by id meaning sequences = done id ∷ []
 
 -- the messages that a message makes an end say
-abbrev pub said_by : Message → List Message
-said_by (Request id method params) = answers_by id (meaning method params)
-said_by message = []
+abbrev pub said_by : Message → List Sequence → List Message
+said_by (Request id method params) sequences = answers_by id (meaning method params) sequences
+said_by message sequences = []
 
 -- the table after an extension: a report may be kept
 abbrev pub extended_by : Meaning → TableValue → TableValue
@@ -106,9 +116,45 @@ table_by (Notification method params) table = extended_by (meaning method params
 table_by (message.Result id value) table = settled (settled_in id table) (Replied value) table
 table_by (message.Error id code text more) table = named_table id (Failed code text more) table
 
+-- a request for a page was answered
+abbrev pub turned_by : Meaning → List Sequence → List Sequence
+turned_by (Turns token) sequences = turned token sequences
+turned_by meaning sequences = sequences
+
+-- a sequence may be given up
+abbrev pub left_by : Meaning → List Sequence → List Sequence
+left_by (Aborts token) sequences = given_up token sequences
+left_by meaning sequences = sequences
+
+-- the sequences that were answered, after a message
+abbrev pub producer_by : Message → List Sequence → List Sequence
+producer_by (Request id method params) sequences = left_by (meaning method params) (turned_by (meaning method params) sequences)
+producer_by (Notification method params) sequences = left_by (meaning method params) sequences
+producer_by message sequences = sequences
+
+-- the sequences that are followed, after what a response is
+abbrev pub followed_by : Settled → Outcome → List Followed → List Followed
+followed_by (First n expect) outcome followed = followed_then n expect outcome followed
+followed_by Stray outcome followed = followed
+
+-- the sequences that are followed, after an error that tells this
+abbrev pub named_followed : Option Id → Outcome → TableValue → List Followed → List Followed
+named_followed (Some id) outcome table followed = followed_by (settled_in id table) outcome followed
+named_followed None outcome table followed = followed
+
+-- the sequences that are followed, after a message
+abbrev pub consumer_by : Message → TableValue → List Followed → List Followed
+consumer_by (message.Result id value) table followed = followed_by (settled_in id table) (Replied value) followed
+consumer_by (message.Error id code text more) table followed = named_followed id (Failed code text more) table followed
+consumer_by message table followed = followed
+
+-- what an end keeps, after a message
+abbrev pub with_kept : Message → RpcValue → RpcValue
+with_kept message end = with_consumer (consumer_by message end.table end.consumer) (with_producer (producer_by message end.producer) (with_table (table_by message end.table) end))
+
 -- an end after a message
 abbrev pub with_heeded : Message → RpcValue → RpcValue
-with_heeded message end = with_said (said_by message) (with_table (table_by message end.table) end)
+with_heeded message end = with_said (said_by message end.producer) (with_kept message end)
 
 -- the rule that a message breaks: the id of a request isn't that of one that waits
 abbrev pub broken_by : Message → TableValue → Option Reason
@@ -137,7 +183,7 @@ front_arrives end (fronts.Broken offset r) = Refuses (end.at + offset) r
 
 -- what a step makes of a running end
 abbrev pub Steps : (old new : RpcValue) → Arrival → RpcStep → Type 0
-Steps old new (Applies place message size) (step.Event e) = (e ≡ event_by message old.table) × (new ≡ with_applied size (with_heeded message old)) × AreMessages (said_by message)
+Steps old new (Applies place message size) (step.Event e) = (e ≡ event_by message old.table) × (new ≡ with_applied size (with_heeded message old)) × AreMessages (said_by message old.producer)
 Steps old new Waits step.Short = new ≡ old
 Steps old new (Refuses place r) (step.Ended c) = (c ≡ refused_at place r) × (new ≡ with_end c old)
 Steps old new arrives step.OutOfMemory = (new.state ≡ state.Stopped) × (new.terms ≡ old.terms)

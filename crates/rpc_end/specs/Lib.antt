@@ -4,6 +4,6 @@ pub mod Stands
 pub mod Arrivals
 pub mod Replies
 pub mod Ends
-pub mod Reader
+pub mod Sound
 pub mod Calls
 pub mod Heeding

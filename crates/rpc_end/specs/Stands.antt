@@ -1,7 +1,10 @@
 -- When an end stands for a list of items.
-use Rattle.std.specs.Prelude.{◌≡◌, ℕ, ◌+◌, List, length, true, false, Option, Some, None}
+use Rattle.std.specs.Prelude.{◌≡◌, ℕ, List, true, false, Option, Some, None}
 use Rattle.call_table.specs.Stands.{TableStands}
 use Rattle.call_table.specs.Table.{TableValue}
+use Rattle.enumerables.specs.declared.followed.Followed.{Followed}
+use Rattle.enumerables.specs.declared.sequence.Sequence.{Sequence}
+use Rattle.enumerables.specs.Stands.{ConsumerStands, ProducerStands}
 use Rattle.message_body.specs.AsRead.{AreMessages}
 use Rattle.message_body.specs.Written.{encoder}
 use Rattle.rpc_items.specs.Allowed.{AreAllowed}
@@ -16,11 +19,14 @@ use Rattle.wire_base.specs.declared.text.Id.{Id}
 use Rattle.rpc_end.specs.Built.{are_built}
 use Rattle.rpc_end.specs.declared.terms.Terms.{Terms}
 
--- the value of an end: how it writes and reads, what it keeps of requests, its output, the bytes `rest` that were fed
--- and aren't applied, and the place `at` of the first of them
+-- the value of an end: how it writes and reads, what it keeps of requests, of the sequences that it answered and of those
+-- that are results of its requests, its output, the bytes `rest` that were fed and aren't applied, and the place `at` of
+-- the first of them
 pub record RpcValue : Type 0 where
   pub terms : Terms
   pub table : TableValue
+  pub producer : List Sequence
+  pub consumer : List Followed
   pub output : List ℕ
   pub at : ℕ
   pub rest : List ℕ
@@ -36,6 +42,8 @@ state_of items = state_by (ended items)
 -- the end is as the items leave it, with these bytes not applied, the first of them at this place
 pub record RpcStands (end : RpcValue) (items : List RpcItem) (at : ℕ) (rest : List ℕ) : Type 0 where
   pub table : TableStands false end.table items
+  pub producer : ProducerStands end.producer items
+  pub consumer : ConsumerStands end.consumer items
   pub at_is : end.at ≡ at
   pub rest_is : end.rest ≡ rest
   pub state : end.state ≡ state_of items

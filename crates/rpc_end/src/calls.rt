@@ -3,24 +3,31 @@
 ghost use Rattle.call_table.specs.Replies.{cancel_refusal, full_refusal, unless_there};
 ghost use Rattle.call_table.specs.Stands.{StandsDrawn, TableStands};
 ghost use Rattle.call_table.specs.Table.{answered, begun, waits_in, with_cancelled};
+ghost use Rattle.enumerables.specs.Consumer.{following_refusal, found, turning, without};
+ghost use Rattle.enumerables.specs.Producer.{with_sequence};
 ghost use Rattle.message_body.specs.AsRead.{AreMessages};
-ghost use Rattle.rpc_end.specs.Built.{are_built_args, is_plain_answer};
-ghost use Rattle.rpc_end.specs.Calls.{Calls, Tests, finished, plain_refusal, reply_refusal, running_refusal, told_refusal};
-ghost use Rattle.rpc_end.specs.Ends.{Makes, with_output, with_table};
+ghost use Rattle.message_body.specs.Written.{encoder};
+ghost use Rattle.rpc_end.specs.Built.{are_built_args, is_built_answer, is_plain_answer};
+ghost use Rattle.rpc_end.specs.Calls.{Calls, Responds, Tests, finished, page_asked, pages_left, plain_refusal, reply_refusal, response_by, running_refusal, told_refusal};
+ghost use Rattle.rpc_end.specs.Ends.{Makes, with_consumer, with_output, with_producer, with_said, with_table};
 ghost use Rattle.rpc_end.specs.Replies.{Answers, RefusesStopped};
 ghost use Rattle.rpc_end.specs.Stands.{RpcStands};
-ghost use Rattle.rpc_items.specs.Bodies.{or_else};
+ghost use Rattle.rpc_items.specs.Bodies.{first_refusal, or_else};
 ghost use Rattle.rpc_items.specs.Drawn.{arg_list, drawn, has_progress_arg};
 ghost use Rattle.rpc_items.specs.Fitting.{IsNamed};
-ghost use Rattle.rpc_items.specs.Items.{Ask, Cancel, Did, Forget, Report, Respond, RpcItem, TakeReport, Tell};
+ghost use Rattle.rpc_items.specs.Items.{Abort, Ask, Cancel, Did, Forget, Next, Report, Respond, RpcItem, TakeReport, Tell};
+ghost use Rattle.rpc_items.specs.Pages.{page_values};
 ghost use Rattle.rpc_items.specs.Reports.{reports};
 ghost use Rattle.rpc_items.specs.Saying.{asks_next, said};
-ghost use Rattle.std.specs.Prelude.{◌≡◌, ◌+◌, ◌∷◌, ◌++◌, [], List, None, OnOk, false, length, slice_get, true, ℕ};
+ghost use Rattle.rpc_items.specs.declared.calls.Answer.TheVariants as answers;
+ghost use Rattle.rpc_items.specs.declared.calls.Expect.TheVariants.{Plain};
+ghost use Rattle.sequence_limits.specs.Limits.{pages_refusal, values_refusal};
+ghost use Rattle.std.specs.Prelude.{◌≡◌, ◌==◌, ◌+◌, ◌∷◌, ◌++◌, [], List, None, OnOk, drop, false, length, slice_get, true, ℕ};
 
 use crate::arguments::has_progress;
 use crate::end::RpcEnd;
 use rpc_items::{Answer, Arguments, Expect};
-use wire_base::{CallFault, Datum, EndState, Id, Refusal, Text};
+use wire_base::{CallFault, Datum, DatumList, EndState, Id, Refusal, Text};
 
 impl RpcEnd {
     /// Says a request, and answers its number, which is its id and the token of its progress.
@@ -30,8 +37,7 @@ impl RpcEnd {
         args: Arguments,
         expect: Expect,
     ) -> Result<u64, CallFault>
-        requires built { are_built_args args ≡ true }
-        requires value { expect ≡ Expect.Plain }
+        requires { are_built_args args ≡ true }
         ensures answers { (items : List RpcItem) (at : ℕ) (rest : List ℕ) → RpcStands self.old items at rest →
             Answers self.old self.new items at rest (Ask method.now args expect) (λ n. n ≡ drawn items + 1) result }
         ensures stopped { RefusesStopped self.old self.new result }
@@ -55,9 +61,10 @@ impl RpcEnd {
         self.finish(told)
     }
 
-    /// Says the one response to a request of the peer.
+    /// Says the one response to a request of the peer. Where that is a sequence, it has the first values of it, and the token by
+    /// which the peer asks for the others, page after page.
     pub fn respond(&mut self, id: &Id, answer: Answer) -> Result<(), CallFault>
-        requires { is_plain_answer answer ≡ true }
+        requires { is_built_answer answer ≡ true }
         ensures answers { (items : List RpcItem) (at : ℕ) (rest : List ℕ) → RpcStands self.old items at rest →
             Answers self.old self.new items at rest (Respond id.now answer) (λ _. Unit {0}) result }
         ensures stopped { RefusesStopped self.old self.new result }
@@ -90,6 +97,30 @@ impl RpcEnd {
         self.check_running()?;
         let reported = self.tell_progress(id, token, value);
         self.finish(reported)
+    }
+
+    /// Asks for the next page of the sequence that is the result of a request, and answers the number of the request for it.
+    pub fn next(&mut self, n: u64) -> Result<u64, CallFault>
+        ensures answers { (items : List RpcItem) (at : ℕ) (rest : List ℕ) → RpcStands self.old items at rest →
+            Answers self.old self.new items at rest (Next n) (λ number. number ≡ drawn items + 1) result }
+        ensures stopped { RefusesStopped self.old self.new result }
+        ensures terms { self.new.terms ≡ self.old.terms }
+    {
+        self.check_running()?;
+        let asked = self.ask_page(n);
+        self.finish(asked)
+    }
+
+    /// Gives the sequence up that is the result of a request: no page of it can be asked for any more.
+    pub fn abort(&mut self, n: u64) -> Result<(), CallFault>
+        ensures answers { (items : List RpcItem) (at : ℕ) (rest : List ℕ) → RpcStands self.old items at rest →
+            Answers self.old self.new items at rest (Abort n) (λ _. Unit {0}) result }
+        ensures stopped { RefusesStopped self.old self.new result }
+        ensures terms { self.new.terms ≡ self.old.terms }
+    {
+        self.check_running()?;
+        let left = self.leave_pages(n);
+        self.finish(left)
     }
 
     /// Hands over the oldest report on a request that asked for progress, where one is left, also after the end. It takes no
@@ -175,13 +206,97 @@ impl RpcEnd {
 
     /// Says a response of a running end.
     fn answer(&mut self, id: &Id, answer: Answer) -> Result<(), CallFault>
+        requires { is_built_answer answer ≡ true }
+        ensures responds { Responds self.old self.new id.now answer tt result }
+        ensures said { OnOk result (IsNamed id.now → AreMessages (response_by id.now answer self.old.producer ∷ [])) }
+    {
+        match answer {
+            Answer::Sequence(values, page, first) => self.answer_in_pages(id, values, page, first),
+            answer => self.answer_whole(id, answer),
+        }
+    }
+
+    /// Says a response of a running end that is all that there is to say.
+    fn answer_whole(&mut self, id: &Id, answer: Answer) -> Result<(), CallFault>
         requires { is_plain_answer answer ≡ true }
         ensures calls { Calls self.old self.new (reply_refusal id.now answer self.old.table) (said (Did (Respond id.now answer)) []) (answered id.now self.old.table) tt result }
-        ensures stands { (items : List RpcItem) → TableStands false self.old.table items → OnOk result (TableStands false self.new.table (Did (Respond id.now answer) ∷ items)) }
         ensures said { OnOk result (IsNamed id.now → AreMessages (said (Did (Respond id.now answer)) [])) }
     {
         let text = self.response_text(id, answer)?;
         self.reply(id, text.as_slice())
+    }
+
+    /// Says a response of a running end that begins a sequence, and keeps the values that are left.
+    fn answer_in_pages(
+        &mut self,
+        id: &Id,
+        values: DatumList,
+        page: u32,
+        first: u32,
+    ) -> Result<(), CallFault>
+        ensures responds { Responds self.old self.new id.now (answers.Sequence values page first) tt result }
+        ensures said { OnOk result (IsNamed id.now → AreMessages (response_by id.now (answers.Sequence values page first) self.old.producer ∷ [])) }
+    {
+        let text = self.pages_text(id, &values, page, first)?;
+        self.reply_in_pages(id, values, page, first, text.as_slice())
+    }
+
+    /// Keeps the values that are left of a sequence, and says the response that begins it.
+    fn reply_in_pages(
+        &mut self,
+        id: &Id,
+        values: DatumList,
+        page: u32,
+        first: u32,
+        text: &[u8],
+    ) -> Result<(), CallFault>
+        requires waits { waits_in id.now self.old.table ≡ true }
+        requires page { (page == 0) ≡ false }
+        requires values { values_refusal (encoder self.old.terms.encoding) values ≡ None }
+        requires pages { pages_refusal (encoder self.old.terms.encoding) (page_values (length values) page (drop first values)) ≡ None }
+        ensures { Makes self.old self.new None None
+            (with_output (self.old.output ++ text.now) (with_producer (with_sequence values page first self.old.producer) (with_table (answered id.now self.old.table) self.old))) tt result }
+    {
+        if self.producer.produce(values, page, first).is_err() {
+            return Err(CallFault::OutOfMemory);
+        }
+        self.reply(id, text)
+    }
+
+    /// Asks for a page of a sequence that a running end follows.
+    fn ask_page(&mut self, n: u64) -> Result<u64, CallFault>
+        ensures makes { Makes self.old self.new (or_else (following_refusal (found n self.old.consumer)) (full_refusal self.old.table))
+            (first_refusal (encoder self.old.terms.encoding) (page_asked n (length self.old.table.requests + 1) self.old.consumer))
+            (with_said (page_asked n (length self.old.table.requests + 1) self.old.consumer) (with_consumer (turning n (length self.old.table.requests + 1) self.old.consumer) (with_table (begun Plain false self.old.table) self.old)))
+            (length self.old.table.requests + 1) result }
+        ensures said { OnOk result (AreMessages (page_asked n (length self.old.table.requests + 1) self.old.consumer)) }
+    {
+        let text = self.turn_text(n)?;
+        self.note_turn(n, text.as_slice())
+    }
+
+    /// Draws the number of the request for a page, and says it.
+    fn note_turn(&mut self, n: u64, text: &[u8]) -> Result<u64, CallFault>
+        requires { full_refusal self.old.table ≡ None }
+        ensures { Makes self.old self.new None None
+            (with_output (self.old.output ++ text.now) (with_consumer (turning n (length self.old.table.requests + 1) self.old.consumer) (with_table (begun Plain false self.old.table) self.old)))
+            (length self.old.table.requests + 1) result }
+    {
+        let number = self.draw(Expect::Plain, false, text)?;
+        self.consumer.turn(n, number);
+        Ok(number)
+    }
+
+    /// Gives a sequence up that a running end follows.
+    fn leave_pages(&mut self, n: u64) -> Result<(), CallFault>
+        ensures makes { Makes self.old self.new (following_refusal (found n self.old.consumer)) (first_refusal (encoder self.old.terms.encoding) (pages_left n self.old.consumer))
+            (with_said (pages_left n self.old.consumer) (with_consumer (without n self.old.consumer) self.old)) tt result }
+        ensures said { OnOk result (AreMessages (pages_left n self.old.consumer)) }
+    {
+        let text = self.abort_text(n)?;
+        self.send(text.as_slice())?;
+        self.consumer.give_up(n);
+        Ok(())
     }
 
     /// Says that a request of a running end is cancelled.

@@ -11,6 +11,7 @@ ghost use Rattle.std.specs.Prelude.{◌≡◌, ◌≤◌, List, drop, false, len
 
 use crate::terms::Terms;
 use call_table::{CallTable, Look};
+use enumerables::{Consumer, Producer};
 use message_body::Encoding;
 use message_framing::{Framing, MessageReader};
 use std::alloc::Global;
@@ -23,6 +24,8 @@ pub struct RpcEnd {
     pub(crate) alloc: Global,
     pub(crate) terms: Terms,
     pub(crate) table: CallTable,
+    pub(crate) producer: Producer,
+    pub(crate) consumer: Consumer,
     pub(crate) output: Vec<u8>,
     pub(crate) reader: MessageReader,
     pub(crate) state: EndState,
@@ -30,18 +33,19 @@ pub struct RpcEnd {
 
 impl Model for RpcEnd {
     ghost use Rattle.rpc_end.specs.Ends.{value_in};
-    ghost use Rattle.rpc_end.specs.Reader.{IsReaderOf};
+    ghost use Rattle.rpc_end.specs.Sound.{IsSound};
     ghost use Rattle.rpc_end.specs.Stands.{RpcValue};
     ghost use Rattle.std.specs.Coded.{codes};
     ghost use Rattle.call_table.specs.Codes.{coded_table};
+    ghost use Rattle.enumerables.specs.Codes.{coded_followed, coded_sequences};
 
     ghost Value = { RpcValue };
 
-    ghost coded = { Prim.hlevel (codes, coded_table) };
+    ghost coded = { Prim.hlevel (codes, coded_table, coded_sequences, coded_followed) };
 
-    ghost view = { λ e. value_in e.terms e.table e.output.items e.reader e.state };
+    ghost view = { λ e. value_in e.terms e.table e.producer e.consumer e.output.items e.reader e.state };
 
-    ghost invariant = { λ e. IsReaderOf e.terms e.reader };
+    ghost invariant = { λ e. IsSound e.terms e.producer e.reader };
 }
 
 impl RpcEnd {
@@ -53,6 +57,8 @@ impl RpcEnd {
             alloc,
             terms: Terms { framing, encoding },
             table: CallTable::new(alloc),
+            producer: Producer::new(alloc),
+            consumer: Consumer::new(alloc),
             output: Vec::new(alloc),
             reader: MessageReader::new(alloc, framing),
             state: EndState::Running,
@@ -94,7 +100,7 @@ impl RpcEnd {
         self.table.outcome(n)
     }
 
-    /// Ends a running connection: requests without a response are lost. It takes no memory.
+    /// Ends a running connection: requests without a response are lost, and no sequence goes on. It takes no memory.
     pub fn end(&mut self, cause: Cause)
         ensures answers { (items : List RpcItem) (at : ℕ) (rest : List ℕ) → RpcStands self.old items at rest → EndsBy self.old self.new items at rest cause (ended items) }
         ensures value { self.new ≡ if_running self.old.state (with_end cause self.old) self.old }
@@ -118,6 +124,8 @@ impl RpcEnd {
         ensures { self.new ≡ with_end cause self.old }
     {
         self.table.lose_all();
+        self.producer.end_all();
+        self.consumer.end_all();
         self.state = EndState::Ended(cause);
     }
 

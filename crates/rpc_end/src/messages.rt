@@ -4,12 +4,12 @@ ghost use Rattle.rpc_end.specs.Built.{are_built_args, is_plain_answer};
 ghost use Rattle.rpc_items.specs.Arguments.{most_drawn};
 ghost use Rattle.rpc_items.specs.Ids.{count_value, id_value, numbered_id};
 ghost use Rattle.rpc_items.specs.Methods.{cancel_request, progress};
-ghost use Rattle.rpc_items.specs.Saying.{params_of, response};
+ghost use Rattle.rpc_items.specs.Saying.{abort_message, params_of, response, turn_message};
 ghost use Rattle.std.specs.Prelude.{◌≡◌, ◌≤◌, ◌∷◌, [], codes, IfOk, true, ℕ};
 
 use crate::arguments::{count, params_of};
 use rpc_items::{Answer, Arguments, Message, Params};
-use rpc_methods::{CANCEL_REQUEST, PROGRESS};
+use rpc_methods::{ABORT_PAGES, CANCEL_REQUEST, NEXT_PAGE, PROGRESS};
 use std::alloc::Global;
 use wire_base::{Datum, Id, Node, OutOfMemory, PairList, Text, Whole};
 
@@ -58,6 +58,36 @@ pub fn report(alloc: Global, token: &Id, value: &Datum) -> Result<Message, OutOf
     members.push((Text::from_str(alloc, "value")?, value.copy(alloc)?))?;
     let method = Text::from_str(alloc, PROGRESS)?;
     Ok(Message::Notification(method, Params::Named(members)))
+}
+
+/// A request of this number for the next page of the sequence with this token.
+pub fn turn(alloc: Global, number: u64, token: &Id) -> Result<Message, OutOfMemory>
+    requires { number ≤ most_drawn }
+    ensures { IfOk result (λ message. message ≡ turn_message number token.now) }
+{
+    let method = Text::from_str(alloc, NEXT_PAGE)?;
+    Ok(Message::Request(
+        Id::Number(number as i64),
+        method,
+        token_params(alloc, token)?,
+    ))
+}
+
+/// A notification that gives the sequence with this token up.
+pub fn abort(alloc: Global, token: &Id) -> Result<Message, OutOfMemory>
+    ensures { IfOk result (λ message. message ≡ abort_message token.now) }
+{
+    let method = Text::from_str(alloc, ABORT_PAGES)?;
+    Ok(Message::Notification(method, token_params(alloc, token)?))
+}
+
+/// The parameters that are a token.
+fn token_params(alloc: Global, token: &Id) -> Result<Params, OutOfMemory>
+    ensures { IfOk result (λ params. params ≡ Params.Named ((codes "token", id_value token.now) ∷ [])) }
+{
+    let mut members = PairList::new(alloc);
+    members.push((Text::from_str(alloc, "token")?, token_value(alloc, token)?))?;
+    Ok(Params::Named(members))
 }
 
 /// A token as a value.

@@ -2,25 +2,33 @@
 
 ghost use Rattle.call_table.specs.Replies.{cancel_refusal, full_refusal, unless_there};
 ghost use Rattle.call_table.specs.Table.{waits_in};
+ghost use Rattle.enumerables.specs.Consumer.{following_refusal, found, token_at};
 ghost use Rattle.message_body.specs.AsRead.{AreMessages};
+ghost use Rattle.message_body.specs.Replies.{Writes};
 ghost use Rattle.message_body.specs.Written.{encoder};
 ghost use Rattle.rpc_end.specs.Built.{are_built_args, is_plain_answer};
-ghost use Rattle.rpc_end.specs.Calls.{Prepares, Tests, member_refusal, needs_refusal, plain_refusal, reply_refusal, told_refusal};
+ghost use Rattle.rpc_end.specs.Calls.{Prepares, Tests, member_refusal, needs_refusal, page_asked, pages_left, plain_refusal, reply_refusal, responding_refusal, response_by, told_refusal, unwritten};
 ghost use Rattle.rpc_end.specs.Texts.{message_texts};
-ghost use Rattle.rpc_items.specs.Bodies.{first_refusal, or_else};
+ghost use Rattle.rpc_items.specs.Bodies.{body_refusal, first_refusal, or_else};
 ghost use Rattle.rpc_items.specs.Arguments.{most_drawn};
 ghost use Rattle.rpc_items.specs.Fitting.{IsNamed};
 ghost use Rattle.rpc_items.specs.Items.{Cancel, Did, Report, Respond, Tell};
 ghost use Rattle.rpc_items.specs.Refusals.{reserved_refusal};
-ghost use Rattle.rpc_items.specs.Saying.{asks_next, said};
-ghost use Rattle.std.specs.Prelude.{◌≡◌, ◌≤◌, ◌+◌, [], IfOk, OnOk, length, true};
+ghost use Rattle.rpc_items.specs.Saying.{asks_next, result_of_sequence, said};
+ghost use Rattle.rpc_items.specs.Writing.{message_value};
+ghost use Rattle.rpc_items.specs.Pages.{page_values};
+ghost use Rattle.rpc_items.specs.declared.calls.Answer.TheVariants as answers;
+ghost use Rattle.sequence_limits.specs.Limits.{pages_refusal, values_refusal};
+ghost use Rattle.std.specs.Prelude.{◌≡◌, ◌==◌, ◌≤◌, ◌<◌, ◌+◌, ◌∷◌, [], IfOk, None, OnOk, Some, drop, false, if◌then◌else◌, length, nat_lt, true};
 
 use crate::arguments::{has_needy, has_reserved};
 use crate::end::RpcEnd;
-use crate::messages::{cancellation, notification, report, request, response};
-use rpc_items::{Answer, Arguments};
+use crate::messages::{abort, cancellation, notification, report, request, response, turn};
+use enumerables::sequence_value;
+use rpc_items::{Answer, Arguments, Message};
 use rpc_methods::{is_reserved, is_reserved_value};
-use wire_base::{CallFault, Datum, Id, Refusal, Text};
+use sequence_limits::{check_pages, check_values as check_sequence};
+use wire_base::{CallFault, Datum, DatumList, Id, OutOfMemory, Refusal, Text};
 
 /// The most requests that are drawn.
 const MOST_REQUESTS: u64 = 4_294_967_295;
@@ -158,6 +166,134 @@ impl RpcEnd {
         };
         self.text_of(&message)
     }
+
+    /// A response that begins a sequence, as it is sent, where each later page can be written too.
+    pub(crate) fn pages_text(
+        &self,
+        id: &Id,
+        values: &DatumList,
+        page: u32,
+        first: u32,
+    ) -> Result<Vec<u8>, CallFault>
+        ensures ok { IfOk result (λ text. text.items ≡ message_texts self.now.terms (response_by id.now (answers.Sequence values.now page first) self.now.producer ∷ [])) }
+        ensures answer { Prepares (responding_refusal id.now (answers.Sequence values.now page first) self.now.table self.now.producer)
+            (unwritten (encoder self.now.terms.encoding) id.now (answers.Sequence values.now page first) self.now.producer) result }
+        ensures said { OnOk result (IsNamed id.now → AreMessages (response_by id.now (answers.Sequence values.now page first) self.now.producer ∷ [])) }
+        ensures page { OnOk result ((page == 0) ≡ false) }
+        ensures values { OnOk result (values_refusal (encoder self.now.terms.encoding) values.now ≡ None) }
+        ensures pages { OnOk result (pages_refusal (encoder self.now.terms.encoding) (page_values (length values.now) page (drop first values.now)) ≡ None) }
+    {
+        self.check_sequence_answer(id, values, page, first)?;
+        if let Err(refusal) = check_sequence(self.terms.encoding, values.as_slice()) {
+            return Err(CallFault::Refused(refusal));
+        }
+        let text = self.first_text(id, values, first)?;
+        check_pages(
+            self.alloc,
+            self.terms.encoding,
+            values.as_slice(),
+            page,
+            first,
+        )?;
+        Ok(text)
+    }
+
+    /// Refuses a sequence as an answer to no waiting request, with pages of no value, and where no more tokens can be drawn.
+    fn check_sequence_answer(
+        &self,
+        id: &Id,
+        values: &DatumList,
+        page: u32,
+        first: u32,
+    ) -> Result<(), CallFault>
+        ensures answer { Tests (responding_refusal id.now (answers.Sequence values.now page first) self.now.table self.now.producer) result }
+        ensures page { OnOk result ((page == 0) ≡ false) }
+        ensures token { OnOk result (first < length values.now → length self.now.producer < most_drawn) }
+    {
+        if !self.table.waits(id) {
+            return Err(CallFault::Refused(Refusal::NoRequest));
+        }
+        match self.producer.check(values, page, first) {
+            Ok(()) => Ok(()),
+            Err(refusal) => Err(CallFault::Refused(refusal)),
+        }
+    }
+
+    /// The response that begins a sequence, as it is sent.
+    fn first_text(&self, id: &Id, values: &DatumList, first: u32) -> Result<Vec<u8>, CallFault>
+        requires { first < length values.now → length self.now.producer < most_drawn }
+        ensures ok { IfOk result (λ text. text.items ≡ message_texts self.now.terms (Message.Result id.now (result_of_sequence values.now first (length self.now.producer + 1)) ∷ [])) }
+        ensures answer { Writes (body_refusal (encoder self.now.terms.encoding) (message_value (Message.Result id.now (result_of_sequence values.now first (length self.now.producer + 1))))) result }
+        ensures said { OnOk result (IsNamed id.now → AreMessages (Message.Result id.now (result_of_sequence values.now first (length self.now.producer + 1)) ∷ [])) }
+    {
+        let Ok(message) = self.first_page(id, values, first) else {
+            return Err(CallFault::OutOfMemory);
+        };
+        self.text_of(&message)
+    }
+
+    /// The response that begins a sequence: its token, where values are left, and its first values.
+    fn first_page(&self, id: &Id, values: &DatumList, first: u32) -> Result<Message, OutOfMemory>
+        requires { first < length values.now → length self.now.producer < most_drawn }
+        ensures { IfOk result (λ message. message ≡ Message.Result id.now (result_of_sequence values.now first (length self.now.producer + 1))) }
+    {
+        let size = values.len().min(first as usize);
+        let token = self.next_token(values, first);
+        let value = sequence_value(self.alloc, token, &values.as_slice()[..size])?;
+        Ok(Message::Result(id.copy(self.alloc)?, value))
+    }
+
+    /// The token of a sequence that is answered next, where it has more values than its first ones.
+    fn next_token(&self, values: &DatumList, first: u32) -> Option<u64>
+        requires { first < length values.now → length self.now.producer < most_drawn }
+        ensures { result ≡ (if nat_lt first (length values.now) then Some (length self.now.producer + 1) else None) }
+    {
+        if (first as usize) < values.len() {
+            Some(self.producer.drawn() + 1)
+        } else {
+            None
+        }
+    }
+
+    /// The token of a request's sequence, where no page of it is asked for.
+    fn followed_token(&self, n: u64) -> Result<&Id, CallFault>
+        ensures answer { Tests (following_refusal (found n self.now.consumer)) result }
+        ensures token { IfOk result (λ token. token_at (found n self.now.consumer) ≡ Some token.now) }
+    {
+        match self.consumer.check(n) {
+            Ok(token) => Ok(token),
+            Err(refusal) => Err(CallFault::Refused(refusal)),
+        }
+    }
+
+    /// A request for a page, as it is sent.
+    pub(crate) fn turn_text(&self, n: u64) -> Result<Vec<u8>, CallFault>
+        ensures ok { IfOk result (λ text. text.items ≡ message_texts self.now.terms (page_asked n (length self.now.table.requests + 1) self.now.consumer)) }
+        ensures answer { Prepares (or_else (following_refusal (found n self.now.consumer)) (full_refusal self.now.table))
+            (first_refusal (encoder self.now.terms.encoding) (page_asked n (length self.now.table.requests + 1) self.now.consumer)) result }
+        ensures said { OnOk result (AreMessages (page_asked n (length self.now.table.requests + 1) self.now.consumer)) }
+    {
+        let token = self.followed_token(n)?;
+        let number = self.next_number()?;
+        let Ok(message) = turn(self.alloc, number, token) else {
+            return Err(CallFault::OutOfMemory);
+        };
+        self.text_of(&message)
+    }
+
+    /// A notification that gives a sequence up, as it is sent.
+    pub(crate) fn abort_text(&self, n: u64) -> Result<Vec<u8>, CallFault>
+        ensures ok { IfOk result (λ text. text.items ≡ message_texts self.now.terms (pages_left n self.now.consumer)) }
+        ensures answer { Prepares (following_refusal (found n self.now.consumer)) (first_refusal (encoder self.now.terms.encoding) (pages_left n self.now.consumer)) result }
+        ensures said { OnOk result (AreMessages (pages_left n self.now.consumer)) }
+    {
+        let token = self.followed_token(n)?;
+        let Ok(message) = abort(self.alloc, token) else {
+            return Err(CallFault::OutOfMemory);
+        };
+        self.text_of(&message)
+    }
+
     /// A cancellation, as it is sent.
     pub(crate) fn cancellation_text(&self, n: u64) -> Result<Vec<u8>, CallFault>
         ensures ok { IfOk result (λ text. text.items ≡ message_texts self.now.terms (said (Did (Cancel n)) [])) }

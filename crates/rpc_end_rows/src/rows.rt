@@ -1,7 +1,7 @@
 //! Rows of text, and the end that lives through them.
 
 use crate::answers::{of_call, of_drawn, of_look, of_report, of_state, of_step, word};
-use crate::values::{call_of, id_of, number, value};
+use crate::values::{call_of, id_of, number, size, value, values};
 use rpc_end::{Answer, Encoding, Expect, Framing, RpcEnd};
 use std::alloc::Global;
 use std::process::Abort;
@@ -64,6 +64,39 @@ fn fails(alloc: Global, end: &mut RpcEnd, words: &str) -> Result<String, Fail> {
     let text = Text::from_str(alloc, "no")?;
     let answer = Answer::Fault(number(code), text, None);
     of_call(alloc, end.respond(&id_of(alloc, id)?, answer))
+}
+
+/// A request whose result is followed as a sequence.
+fn seeks(alloc: Global, end: &mut RpcEnd, words: &str) -> Result<String, Fail> {
+    let (method, args) = call_of(alloc, words)?;
+    of_drawn(alloc, end.request(&method, args, Expect::Sequence))
+}
+
+fn begins(
+    alloc: Global,
+    end: &mut RpcEnd,
+    id: &str,
+    (page, first): (u32, u32),
+    words: &str,
+) -> Result<String, Fail> {
+    let answer = Answer::Sequence(values(alloc, words)?, page, first);
+    of_call(alloc, end.respond(&id_of(alloc, id)?, answer))
+}
+
+/// The words are the id of a request, the size of a page, how many values come first, and all values.
+fn pages(alloc: Global, end: &mut RpcEnd, words: &str) -> Result<String, Fail> {
+    let (id, words) = words.split_once(' ').unwrap_or((words, ""));
+    let (page, words) = words.split_once(' ').unwrap_or((words, ""));
+    let (first, words) = words.split_once(' ').unwrap_or((words, ""));
+    begins(alloc, end, id, (size(page), size(first)), words)
+}
+
+fn turns(alloc: Global, end: &mut RpcEnd, n: u64) -> Result<String, Fail> {
+    of_drawn(alloc, end.next(n))
+}
+
+fn aborts(alloc: Global, end: &mut RpcEnd, n: u64) -> Result<String, Fail> {
+    of_call(alloc, end.abort(n))
 }
 
 fn cancels(alloc: Global, end: &mut RpcEnd, n: u64) -> Result<String, Fail> {
@@ -151,6 +184,17 @@ fn befalls(alloc: Global, end: &mut RpcEnd, name: &str, words: &str) -> Result<S
     }
 }
 
+/// What a call about sequences answers.
+fn pages_turn(alloc: Global, end: &mut RpcEnd, name: &str, words: &str) -> Result<String, Fail> {
+    match name {
+        "seeks" => seeks(alloc, end, words),
+        "pages" => pages(alloc, end, words),
+        "turns" => turns(alloc, end, number(words).unsigned_abs()),
+        "aborts" => aborts(alloc, end, number(words).unsigned_abs()),
+        _ => befalls(alloc, end, name, words),
+    }
+}
+
 /// What this call answers.
 pub fn happens(alloc: Global, end: &mut RpcEnd, call: &str) -> Result<String, Fail> {
     let (name, words) = call.split_once(' ').unwrap_or((call, ""));
@@ -164,7 +208,7 @@ pub fn happens(alloc: Global, end: &mut RpcEnd, call: &str) -> Result<String, Fa
         "reports" => reports(alloc, end, words),
         "takes" => takes(alloc, end, number(words).unsigned_abs()),
         "forgets" => forgets(alloc, end, number(words).unsigned_abs()),
-        _ => befalls(alloc, end, name, words),
+        _ => pages_turn(alloc, end, name, words),
     }
 }
 

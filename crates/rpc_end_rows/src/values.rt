@@ -12,6 +12,11 @@ pub fn number(word: &str) -> i64 {
     word.trim().parse::<i64>().unwrap_or(0)
 }
 
+/// A number that is no more than fits, and 0 for any other.
+pub fn size(word: &str) -> u32 {
+    u32::try_from(number(word)).unwrap_or(0)
+}
+
 fn whole(n: i64) -> Datum {
     Datum {
         node: Node::Whole(Whole::from_i64(n)),
@@ -56,6 +61,17 @@ pub fn value(alloc: Global, word: &str) -> Result<Datum, Fail> {
             None => Ok(whole(number(word))),
         },
     }
+}
+
+/// The values that words stand for.
+pub fn values(alloc: Global, words: &str) -> Result<DatumList, Fail> {
+    let mut list = DatumList::new(alloc);
+    for word in words.split(' ') {
+        if !word.is_empty() {
+            list.push(value(alloc, word)?)?;
+        }
+    }
+    Ok(list)
 }
 
 /// A number, or a name between quotes.

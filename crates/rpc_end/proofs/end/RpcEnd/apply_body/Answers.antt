@@ -1,5 +1,5 @@
 -- What a body breaks, it breaks within the rest.
-use Rattle.std.proofs.Common.{◌≡◌, ◌+◌, ◌≤◌, ℕ, List, Err, ap, ◌∙◌, arith, rules, take, drop, length, length-drop}
+use Rattle.std.proofs.Common.{◌≡◌, ◌+◌, ◌≤◌, ℕ, List, Err, arith, take, drop, length, length-drop}
 use Rattle.std.proofs.lemmas.List.{length-take-le}
 use Rattle.wire_base.specs.declared.reason.Reason.{Reason}
 use Rattle.message_body.specs.declared.encoding.Encoding.{Encoding}

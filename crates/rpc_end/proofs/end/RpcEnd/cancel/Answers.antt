@@ -12,7 +12,7 @@ returns-clause-answers c = λ items at rest s.
     let old = c.args.self.now in
     let n = c.args.n in
     call_answers old c.give_up-cancelled.new.self (with_cancelled n old.table) (Cancel n) items at rest tt (λ _. Unit {0}) c.finish.new.self (cancel_refusal n old.table) (said (Did (Cancel n)) [])
-    c.give_up-cancelled.result c.finish.result s c.in_ok-check_running.ensures refl refl (cancels_as old.table items n s.table) refl refl c.give_up-cancelled.ensures.said
+    c.give_up-cancelled.result c.finish.result s c.in_ok-check_running.ensures refl refl refl refl (cancels_as old.table items n s.table) refl refl c.give_up-cancelled.ensures.said
     (c.give_up-cancelled.ensures.stands items s.table) tt
     c.give_up-cancelled.ensures.calls c.finish.ensures.answer c.finish.ensures.state
 

@@ -12,7 +12,7 @@ returns-clause-answers c = λ items at rest s.
     let args = c.args.args in
     let messages = said (Did (Tell method args)) [] in
     call_answers old c.tell-told.new.self old.table (Tell method args) items at rest tt (λ _. Unit {0}) c.finish.new.self (told_refusal method args) messages c.tell-told.result c.finish.result
-    s c.in_ok-check_running.ensures refl c.requires (tell_early method args items c.requires s.built) (tell_says method args items s.built) refl c.tell-told.ensures.said
+    s c.in_ok-check_running.ensures refl c.requires refl refl (tell_early method args items c.requires s.built) (tell_says method args items s.built) refl c.tell-told.ensures.said
     (tell_stands old c.tell-told.new.self (told_refusal method args) messages tt c.tell-told.result method args items s.table c.tell-told.ensures.calls) tt
     c.tell-told.ensures.calls c.finish.ensures.answer c.finish.ensures.state
 

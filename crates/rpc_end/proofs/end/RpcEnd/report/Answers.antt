@@ -15,7 +15,7 @@ returns-clause-answers c = λ items at rest s.
     let early = unless_there (waits_in id old.table) in
     let messages = said (Did (Report id token value)) [] in
     call_answers old c.tell_progress-reported.new.self old.table (Report id token value) items at rest tt (λ _. Unit {0}) c.finish.new.self early messages c.tell_progress-reported.result c.finish.result
-    s c.in_ok-check_running.ensures refl refl (report_early id token value old.table items s.table) refl refl c.tell_progress-reported.ensures.said
+    s c.in_ok-check_running.ensures refl refl refl refl (report_early id token value old.table items s.table) refl refl c.tell_progress-reported.ensures.said
     (report_stands old c.tell_progress-reported.new.self early messages tt c.tell_progress-reported.result id token value items s.table c.tell_progress-reported.ensures.calls) tt
     c.tell_progress-reported.ensures.calls c.finish.ensures.answer c.finish.ensures.state
 

@@ -8,7 +8,7 @@ use Rattle.rpc_items.specs.Saying.{said}
 use Rattle.rpc_end.specs.Calls.{reply_refusal}
 use Rattle.rpc_end.specs.Ends.{with_said, with_table}
 use Rattle.rpc_end.proofs.Answering.{unprepared}
-use Rattle.rpc_end.proofs.end.RpcEnd.answer.Goals as goal
+use Rattle.rpc_end.proofs.end.RpcEnd.answer_whole.Goals as goal
 
 pub returns-in_err-text-clause-calls : goal.returns-in_err-text-clause-calls
 returns-in_err-text-clause-calls c =

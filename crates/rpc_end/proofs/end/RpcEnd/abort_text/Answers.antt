@@ -1,0 +1,14 @@
+-- What gives a sequence up is a message of the code: it has no id.
+use Rattle.rpc_items.specs.Saying.{abort_message}
+use Rattle.rpc_end.specs.Calls.{pages_left}
+use Rattle.rpc_end.proofs.Responding.{left_early, left_so, made_text}
+use Rattle.rpc_end.proofs.end.RpcEnd.abort_text.Goals as goal
+
+pub returns : goal.returns
+returns c =
+    let self = c.args.self.now in
+    let n = c.args.n in
+    let token = c.in_ok-token.token.now in
+    let text = made_text c.text_of.result (λ t. t.items) self.terms (left_early self n) c.in-Ok.message (abort_message token) (pages_left n self.consumer) c.in-Ok.ensures (left_so n self.consumer token c.in_ok-token.ensures.token)
+    c.in_ok-token.ensures.answer tt c.text_of.ensures.ok c.text_of.ensures.answer c.text_of.ensures.message in
+    record { ok = text.ok; answer = text.answer; said = text.said }
