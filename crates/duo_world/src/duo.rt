@@ -30,11 +30,12 @@ impl Model for Duo {
     ghost use Rattle.call_table.specs.Codes.{coded_table};
     ghost use Rattle.duo_world.specs.Holding.{DuoHolds, DuoState};
     ghost use Rattle.endpoint_run.specs.contracts.steps.Step as step;
+    ghost use Rattle.enumerables.specs.Codes.{coded_followed, coded_sequences};
     ghost use Rattle.std.specs.Coded.{codes};
 
     ghost Value = { DuoState };
 
-    ghost coded = { Prim.hlevel (codes, coded_table, step.the_row.coded) };
+    ghost coded = { Prim.hlevel (codes, coded_table, coded_sequences, coded_followed, step.the_row.coded) };
 
     ghost view = { λ d. record { terms = record { version = d.version; nonce_a = d.nonce_a; nonce_b = d.nonce_b }; a = d.a; b = d.b; steps = d.steps; failed = d.failed } };
 

@@ -86,6 +86,8 @@ fn note_ranges(call: &Call)
         | Call::Cancel(_, _)
         | Call::Report(_, _, _, _)
         | Call::TakeReport(_, _)
+        | Call::Next(_, _)
+        | Call::Abort(_, _)
         | Call::Outcome(_, _)
         | Call::Forget(_, _) => {}
     }

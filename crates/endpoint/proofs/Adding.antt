@@ -4,6 +4,8 @@ use Rattle.std.proofs.Common.{◌≡◌, refl, sym, ◌∙◌, ap, subst}
 use Rattle.std.proofs.lemmas.List.{append-nil}
 use Rattle.call_table.specs.Table.{over}
 use Rattle.call_table.proofs.After.{lost_after}
+use Rattle.enumerables.proofs.After.{ended_after, over_after}
+use Rattle.enumerables.specs.Producer.{all_ended}
 use Rattle.rpc_items.specs.declared.calls.Outcome.TheVariants.{Lost}
 use Rattle.rpc_items.specs.Items as rpc
 use Rattle.rpc_items.specs.Saying.{all_said}
@@ -48,6 +50,8 @@ module _ (cause : Cause) (terms : Terms) (items : List rpc.RpcItem) (at : ℕ) (
       subst (λ (s : EndState). IsConnection terms (rpc.End cause ∷ items) at rest (if_running s (with_end cause end) end)) (sym state_is) (record {
         stands = record {
           table = lost_after end.table (over Lost end.table) items cause refl c.stands.table;
+          producer = ended_after cause end.producer (all_ended end.producer) items refl c.stands.producer;
+          consumer = over_after cause end.consumer [] items refl c.stands.consumer;
           at_is = c.stands.at_is;
           rest_is = c.stands.rest_is;
           state = refl;

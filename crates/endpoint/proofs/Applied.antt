@@ -20,7 +20,7 @@ use Rattle.endpoint_items.specs.Asked.{look_reply, made_by, refused_or, reply_to
 use Rattle.endpoint_items.specs.Calls.{EndCall, OfMux, call_refusal, item_of}
 use Rattle.endpoint_items.specs.Connections.{was_attached}
 use Rattle.endpoint_items.specs.Items.{EndItem}
-use Rattle.endpoint_items.specs.Layers.{mux_of, rpc_of}
+use Rattle.endpoint_items.specs.Layers.{rpc_of}
 use Rattle.endpoint_items.specs.Outcomes.{outcome_on}
 use Rattle.endpoint.specs.Applied.{Applies, Leaves, TellsOf, as_reply, early_made, item_made, item_unless}
 use Rattle.endpoint.specs.declared.attached.Attached.{Attached}

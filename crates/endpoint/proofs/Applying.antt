@@ -100,6 +100,8 @@ module _ (old new : EndpointValue) (items : List EndItem) (at : ℕ) (rest : Lis
         record {
           stands = record {
             table = adds.stands.table;
+            producer = adds.stands.producer;
+            consumer = adds.stands.consumer;
             at_is = adds.stands.at_is;
             rest_is = adds.stands.rest_is ∙ drop-drop size (consumed c items) bytes;
             state = adds.stands.state;

@@ -116,7 +116,7 @@ module _ {A : Type 0} (old new : EndpointValue) (items : List EndItem) (at : ℕ
       (ap (connection_at c) is ∙ (placed.changes y refl c ∙ rw (same_key_refl c) refl))
       (λ d differs. ap (connection_at d) is ∙ (placed.changes y refl d ∙ rw differs refl))
       (subst (λ con. ConnectionStands (Some now) con (terms_of c items) (consumed c items) (rest_of v c items)) (sym connection) (record {
-        stands = record { table = t.table; at_is = t.at_is; rest_is = t.rest_is; state = t.state; allowed = t.allowed; built = t.built; said = t.said; named = t.named };
+        stands = record { table = t.table; producer = t.producer; consumer = t.consumer; at_is = t.at_is; rest_is = t.rest_is; state = t.state; allowed = t.allowed; built = t.built; said = t.said; named = t.named };
         terms_are = adds.terms_stay ∙ has.stands.terms_are;
         written = refl;
       }))

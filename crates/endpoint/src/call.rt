@@ -73,6 +73,8 @@ impl Endpoint {
             Call::Cancel(key, n) => done(self.cancel(key, n)),
             Call::Report(key, id, token, value) => done(self.report(key, &id, &token, &value)),
             Call::TakeReport(key, n) => self.take_report(key, n).map(Reply::Report),
+            Call::Next(key, n) => self.next(key, n).map(Reply::Number),
+            Call::Abort(key, n) => done(self.abort(key, n)),
             Call::Outcome(key, n) => self.tell(key, n),
             Call::Forget(key, n) => done(self.forget(key, n)),
         }

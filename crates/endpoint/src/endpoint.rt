@@ -37,12 +37,13 @@ pub struct Endpoint {
 
 impl Model for Endpoint {
     ghost use Rattle.call_table.specs.Codes.{coded_table};
+    ghost use Rattle.enumerables.specs.Codes.{coded_followed, coded_sequences};
     ghost use Rattle.endpoint.specs.Value.{AreOfOne, EndpointValue, value_in};
     ghost use Rattle.std.specs.Coded.{codes};
 
     ghost Value = { EndpointValue };
 
-    ghost coded = { Prim.hlevel (codes, coded_table) };
+    ghost coded = { Prim.hlevel (codes, coded_table, coded_sequences, coded_followed) };
 
     ghost view = { λ e. value_in e.mux e.connections.items e.stopped };
 

@@ -10,10 +10,10 @@ ghost use Rattle.endpoint_items.specs.Items.{EndItem};
 ghost use Rattle.endpoint_items.specs.Layers.{mux_of, rpc_of};
 ghost use Rattle.mux_end.specs.Replies.{KeepsTerms};
 ghost use Rattle.mux_items.specs.Bodies.{same_key};
-ghost use Rattle.rpc_end.specs.Built.{are_built_args, is_plain_answer};
+ghost use Rattle.rpc_end.specs.Built.{are_built_args, is_built_answer};
 ghost use Rattle.rpc_end.specs.Calls.{Tests};
 ghost use Rattle.rpc_items.specs.Drawn.{drawn};
-ghost use Rattle.rpc_items.specs.Items.{Ask, Cancel, Forget, Report, Respond, TakeReport, Tell};
+ghost use Rattle.rpc_items.specs.Items.{Abort, Ask, Cancel, Forget, Next, Report, Respond, TakeReport, Tell};
 ghost use Rattle.rpc_items.specs.Reports.{reports};
 ghost use Rattle.std.specs.List.{position};
 ghost use Rattle.std.specs.Prelude.{◌≡◌, ◌<◌, ◌+◌, List, length, slice_get, true, ℕ};
@@ -36,8 +36,7 @@ impl Endpoint {
         args: Arguments,
         expect: Expect,
     ) -> Result<u64, CallFault>
-        requires built { are_built_args args ≡ true }
-        requires value { expect ≡ Expect.Plain }
+        requires { are_built_args args ≡ true }
         ensures answers { (items : List EndItem) (at : ℕ) (rest : List ℕ) → Stands self.old items at rest →
             Answers self.old self.new items at rest (OfConnection key (Ask method.now args expect)) (λ n. n ≡ drawn (items_of (rpc_of self.old.mux.version key items)) + 1) result }
         ensures stopped { RefusesStopped self.old self.new result }
@@ -68,9 +67,9 @@ impl Endpoint {
         self.finish_said(place, told)
     }
 
-    /// Says the one response to a request of the peer on a channel.
+    /// Says the one response to a request of the peer on a channel. Where that is a sequence, it has the first values of it.
     pub fn respond(&mut self, key: ChannelKey, id: &Id, answer: Answer) -> Result<(), CallFault>
-        requires { is_plain_answer answer ≡ true }
+        requires { is_built_answer answer ≡ true }
         ensures answers { (items : List EndItem) (at : ℕ) (rest : List ℕ) → Stands self.old items at rest →
             Answers self.old self.new items at rest (OfConnection key (Respond id.now answer)) (λ _. Unit {0}) result }
         ensures stopped { RefusesStopped self.old self.new result }
@@ -112,6 +111,33 @@ impl Endpoint {
         self.check_room(key)?;
         let reported = self.connections[place].end.report(id, token, value);
         self.finish_said(place, reported)
+    }
+
+    /// Asks for the next page of the sequence that is the result of an own request, and answers the number of the request for
+    /// it.
+    pub fn next(&mut self, key: ChannelKey, n: u64) -> Result<u64, CallFault>
+        ensures answers { (items : List EndItem) (at : ℕ) (rest : List ℕ) → Stands self.old items at rest →
+            Answers self.old self.new items at rest (OfConnection key (Next n)) (λ number. number ≡ drawn (items_of (rpc_of self.old.mux.version key items)) + 1) result }
+        ensures stopped { RefusesStopped self.old self.new result }
+        ensures terms { KeepsTerms self.old.mux self.new.mux }
+    {
+        let place = self.check_attached(key)?;
+        self.check_room(key)?;
+        let asked = self.connections[place].end.next(n);
+        self.finish_said(place, asked)
+    }
+
+    /// Gives the sequence up that is the result of an own request: no page of it can be asked for any more.
+    pub fn abort(&mut self, key: ChannelKey, n: u64) -> Result<(), CallFault>
+        ensures answers { (items : List EndItem) (at : ℕ) (rest : List ℕ) → Stands self.old items at rest →
+            Answers self.old self.new items at rest (OfConnection key (Abort n)) (λ _. Unit {0}) result }
+        ensures stopped { RefusesStopped self.old self.new result }
+        ensures terms { KeepsTerms self.old.mux self.new.mux }
+    {
+        let place = self.check_attached(key)?;
+        self.check_room(key)?;
+        let left = self.connections[place].end.abort(n);
+        self.finish_said(place, left)
     }
 
     /// Takes the next report that was kept on an own request, where one is left, also after the end of the connection. It

@@ -1,4 +1,4 @@
--- Calls that are built: those of connections have no sequence in them and no object.
+-- Calls that are built: those of connections have no object in them.
 use Rattle.std.specs.Prelude.{Bool, true, Option, Some, None}
 use Rattle.rpc_end.specs.Built.{is_built}
 use Rattle.endpoint_items.specs.declared.call.Call.{Call}

@@ -26,6 +26,10 @@ pub enum Call {
     Report(ChannelKey, Id, Id, Datum),
     /// The next report that came on one of its requests is taken, where one is left.
     TakeReport(ChannelKey, u64),
+    /// The next page is asked for of the sequence that is the result of one of its requests.
+    Next(ChannelKey, u64),
+    /// That sequence is given up.
+    Abort(ChannelKey, u64),
     /// What became of one of its requests is asked for. This changes nothing.
     Outcome(ChannelKey, u64),
     /// A known outcome is dropped.
@@ -76,6 +80,8 @@ impl Call {
                 Ok(Call::Report(*key, id, token, value.copy(alloc)?))
             }
             Call::TakeReport(key, n) => Ok(Call::TakeReport(*key, *n)),
+            Call::Next(key, n) => Ok(Call::Next(*key, *n)),
+            Call::Abort(key, n) => Ok(Call::Abort(*key, *n)),
             Call::Outcome(key, n) => Ok(Call::Outcome(*key, *n)),
             Call::Forget(key, n) => Ok(Call::Forget(*key, *n)),
         }

@@ -5,7 +5,7 @@ use endpoint::{
 };
 use std::alloc::Global;
 use std::test::Fail;
-use wire_base::{Cause, Datum, EndState, Id, Node};
+use wire_base::{Cause, Datum, DatumList, EndState, Id, Node, PairList, Text};
 
 pub fn word(alloc: Global, word: &str) -> Result<String, Fail> {
     Ok(String::from_str(alloc, word)?)
@@ -161,10 +161,53 @@ pub fn of_step(alloc: Global, side: &str, step: &EndStep) -> Result<String, Fail
     }
 }
 
-fn of_value(alloc: Global, value: &Datum) -> Result<String, Fail> {
+/// A number or a flag.
+fn of_plain(alloc: Global, value: &Datum) -> Result<String, Fail> {
     match &value.node {
         Node::Whole(number) => Ok(format!(in alloc; "{}", number.get())?),
+        Node::Flag(flag) => Ok(format!(in alloc; "{flag}")?),
         _ => word(alloc, "another value"),
+    }
+}
+
+fn of_items(alloc: Global, items: &DatumList) -> Result<String, Fail> {
+    let mut told = word(alloc, "[")?;
+    for item in items.as_slice() {
+        if told.len() > 1 {
+            told.push_str(",")?;
+        }
+        told.push_str(of_plain(alloc, item)?.as_str())?;
+    }
+    told.push_str("]")?;
+    Ok(told)
+}
+
+/// A member of a map: its name, and a plain value or an array of those.
+fn of_member(alloc: Global, (name, value): &(Text, Datum)) -> Result<String, Fail> {
+    let value = match &value.node {
+        Node::Items(items) => of_items(alloc, items)?,
+        _ => of_plain(alloc, value)?,
+    };
+    Ok(format!(in alloc; "\"{}\":{value}", name.as_str())?)
+}
+
+fn of_pairs(alloc: Global, pairs: &PairList) -> Result<String, Fail> {
+    let mut told = word(alloc, "{")?;
+    for pair in pairs.as_slice() {
+        if told.len() > 1 {
+            told.push_str(",")?;
+        }
+        told.push_str(of_member(alloc, pair)?.as_str())?;
+    }
+    told.push_str("}")?;
+    Ok(told)
+}
+
+/// A sequence and a page are told as they are in JSON.
+fn of_value(alloc: Global, value: &Datum) -> Result<String, Fail> {
+    match &value.node {
+        Node::Pairs(pairs) => of_pairs(alloc, pairs),
+        _ => of_plain(alloc, value),
     }
 }
 

@@ -21,4 +21,6 @@ mod refusing;
 #[cfg(test)]
 mod rows;
 #[cfg(test)]
+mod sequences;
+#[cfg(test)]
 mod values;

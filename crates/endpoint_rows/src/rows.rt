@@ -4,7 +4,7 @@ ghost use Rattle.endpoint_items.specs.Built.{is_built_call};
 ghost use Rattle.std.specs.Prelude.{◌≡◌, IfOk, true};
 
 use crate::answers::{of_key, of_reply, of_state, of_step, of_tally, of_view, other, word};
-use crate::values::{call_of, id_of, number, value};
+use crate::values::{answer_of, call_of, id_of, number, value};
 use endpoint::{Answer, Call, ChannelKey, Encoding, Endpoint, Expect, Framing};
 use rpc_end::Terms;
 use std::alloc::Global;
@@ -123,8 +123,12 @@ fn attaches(key: ChannelKey, words: &str) -> Call
 fn asks(alloc: Global, key: ChannelKey, words: &str) -> Result<Call, Fail>
     ensures { IfOk result (λ call. is_built_call call ≡ true) }
 {
+    let (words, expect) = match words.strip_suffix(" sequence") {
+        Some(words) => (words, Expect::Sequence),
+        None => (words, Expect::Plain),
+    };
     let (method, args) = call_of(alloc, words)?;
-    Ok(Call::Request(key, method, args, Expect::Plain))
+    Ok(Call::Request(key, method, args, expect))
 }
 
 fn tells(alloc: Global, key: ChannelKey, words: &str) -> Result<Call, Fail>
@@ -137,8 +141,8 @@ fn tells(alloc: Global, key: ChannelKey, words: &str) -> Result<Call, Fail>
 fn answers(alloc: Global, key: ChannelKey, words: &str) -> Result<Call, Fail>
     ensures { IfOk result (λ call. is_built_call call ≡ true) }
 {
-    let (id, word) = first(words);
-    let answer = Answer::Value(value(alloc, word)?);
+    let (id, words) = first(words);
+    let answer = answer_of(alloc, words)?;
     Ok(Call::Respond(key, id_of(alloc, id)?, answer))
 }
 
@@ -285,6 +289,8 @@ fn calls(
         "cancels" => makes(alloc, side, end, Call::Cancel(key, count(words))),
         "reports" => makes(alloc, side, end, reports(alloc, key, words)?),
         "takes" => makes(alloc, side, end, Call::TakeReport(key, count(words))),
+        "turns" => makes(alloc, side, end, Call::Next(key, count(words))),
+        "leaves" => makes(alloc, side, end, Call::Abort(key, count(words))),
         "outcome" => makes(alloc, side, end, Call::Outcome(key, count(words))),
         "forgets" => makes(alloc, side, end, Call::Forget(key, count(words))),
         _ => match carries(alloc, key, (name, words))? {

@@ -1,9 +1,9 @@
 //! The values that words stand for.
 
-ghost use Rattle.rpc_end.specs.Built.{are_built_args, is_built_arg};
+ghost use Rattle.rpc_end.specs.Built.{are_built_args, is_built_answer, is_built_arg};
 ghost use Rattle.std.specs.Prelude.{◌≡◌, IfOk, true};
 
-use endpoint::{Arg, ArgList, Arguments};
+use endpoint::{Answer, Arg, ArgList, Arguments};
 use std::alloc::Global;
 use std::test::Fail;
 use wire_base::{Blob, Datum, DatumList, Id, Node, PairList, Text, Whole};
@@ -55,6 +55,39 @@ pub fn value(alloc: Global, word: &str) -> Result<Datum, Fail> {
             Some(depth) => nested(alloc, number(depth).unsigned_abs()),
             None => Ok(whole(number(word))),
         },
+    }
+}
+
+/// The numbers from 1 to this one.
+fn numbers(alloc: Global, last: i64) -> Result<DatumList, Fail> {
+    let mut items = DatumList::new(alloc);
+    for n in 1..=last {
+        items.push(whole(n))?;
+    }
+    Ok(items)
+}
+
+fn size(word: &str) -> u32 {
+    u32::try_from(number(word)).unwrap_or(0)
+}
+
+/// The numbers from 1 to the first word's, in pages of the second's, where those of the third go with the result.
+fn in_pages(alloc: Global, words: &str) -> Result<Answer, Fail>
+    ensures { IfOk result (λ answer. is_built_answer answer ≡ true) }
+{
+    let (last, sizes) = words.split_once(' ').unwrap_or((words, ""));
+    let (page, first) = sizes.split_once(' ').unwrap_or((sizes, ""));
+    let values = numbers(alloc, number(last))?;
+    Ok(Answer::Sequence(values, size(page), size(first)))
+}
+
+/// The answer that words stand for: `sequence` with three numbers, or a value.
+pub fn answer_of(alloc: Global, words: &str) -> Result<Answer, Fail>
+    ensures { IfOk result (λ answer. is_built_answer answer ≡ true) }
+{
+    match words.strip_prefix("sequence ") {
+        Some(sizes) => in_pages(alloc, sizes),
+        None => Ok(Answer::Value(value(alloc, words)?)),
     }
 }
 

@@ -11,6 +11,7 @@ use Rattle.wire_base.specs.declared.text.Id.TheVariants.{Number}
 use Rattle.wire_base.specs.Tokens.{head_at, token_at, inner_at, field_at, bytes_at}
 use Rattle.wire_base.specs.Head.{lettered}
 use Rattle.pack_value.specs.Answer as pack
+use Rattle.pack_value.specs.Shortest as shortest
 use Rattle.pack_value.specs.Reading.{run_at, text_at, cut_head, key_at, repeat, pair_at, behind, value_at, items_at, pairs_at}
 use Rattle.message_framing.specs.Front.{front}
 use Rattle.message_framing.specs.Wrapped.{head_text}
@@ -27,12 +28,13 @@ use Rattle.mux_run.specs.declared.steps.Side.TheVariants.{A, B}
 use Rattle.rpc_items.specs.declared.calls.Answer.TheVariants as answered
 use Rattle.rpc_items.specs.declared.calls.Arg.TheVariants as arg
 use Rattle.rpc_items.specs.declared.calls.Arguments.TheVariants as arguments
-use Rattle.rpc_items.specs.declared.calls.Expect.TheVariants.{Plain}
+use Rattle.rpc_items.specs.declared.calls.Expect.TheVariants.{Plain, Sequence}
 use Rattle.rpc_items.specs.declared.calls.Outcome.TheVariants.{Replied}
 use Rattle.rpc_items.specs.declared.calls.RpcEvent.TheVariants as told
 use Rattle.rpc_items.specs.declared.calls.Target.TheVariants.{Root}
 use Rattle.rpc_items.specs.declared.messages.Params.TheVariants as params
 use Rattle.rpc_items.specs.Ids.{count_value}
+use Rattle.rpc_items.specs.Pages.{page_value}
 use Rattle.rpc_end.specs.declared.terms.Terms.{Terms as Form}
 use Rattle.endpoint_items.specs.declared.call.Call.TheVariants as call
 use Rattle.endpoint_items.specs.declared.event.EndEvent.TheVariants as event
@@ -256,3 +258,41 @@ cancels = refl
 cancelled : answer terms cancel (run terms (asked ++ cancel ∷ [])) ≡ duo.Replied (reply.Refused refusal.AlreadyCancelled) []
 unfolding head_text
 cancelled = refl
+
+-- A asks for a sequence, and B answers with three values in pages of two, of which one goes with the result
+abbrev in_pages : List Step
+in_pages = attached
+    ++ step.Call A (call.Request at_a (109 ∷ []) (arguments.List []) Sequence)
+    ∷ step.Deliver B 1000
+    ∷ step.Call B (call.Respond at_b (Number (pos 1)) (answered.Sequence (count_value 5 ∷ count_value 6 ∷ count_value 7 ∷ []) 2 1))
+    ∷ step.Deliver A 1000
+    ∷ []
+
+-- a page is asked for by a request of its own, one at a time
+abbrev next : Step
+next = step.Call A (call.Next at_a 1)
+
+turns : answer terms next (run terms in_pages) ≡ duo.Replied (reply.Number 2) []
+unfolding front head_text pack.front head_at token_at inner_at field_at bytes_at lettered run_at text_at cut_head key_at repeat pair_at behind value_at items_at pairs_at is_utf8 chars encode shortest.flag_byte
+turns = refl
+
+outstanding : answer terms next (run terms (in_pages ++ next ∷ [])) ≡ duo.Replied (reply.Refused refusal.NextOutstanding) []
+unfolding front head_text pack.front head_at token_at inner_at field_at bytes_at lettered run_at text_at cut_head key_at repeat pair_at behind value_at items_at pairs_at is_utf8 chars encode shortest.flag_byte
+outstanding = refl
+
+page : answer terms (step.Call A (call.Outcome at_a 2)) (run terms (in_pages ++ next ∷ step.Deliver B 1000 ∷ step.Deliver A 1000 ∷ []))
+    ≡ duo.Replied (reply.Known (Replied (page_value true (count_value 6 ∷ count_value 7 ∷ [])))) []
+unfolding front head_text pack.front head_at token_at inner_at field_at bytes_at lettered run_at text_at cut_head key_at repeat pair_at behind value_at items_at pairs_at is_utf8 chars encode shortest.flag_byte
+page = refl
+
+-- A gives the sequence up, once
+abbrev abort : Step
+abort = step.Call A (call.Abort at_a 1)
+
+leaves : answer terms abort (run terms in_pages) ≡ duo.Replied reply.Done []
+unfolding front head_text pack.front head_at token_at inner_at field_at bytes_at lettered run_at text_at cut_head key_at repeat pair_at behind value_at items_at pairs_at is_utf8 chars encode shortest.flag_byte
+leaves = refl
+
+left : answer terms next (run terms (in_pages ++ abort ∷ [])) ≡ duo.Replied (reply.Refused refusal.NoEnumerable) []
+unfolding front head_text pack.front head_at token_at inner_at field_at bytes_at lettered run_at text_at cut_head key_at repeat pair_at behind value_at items_at pairs_at is_utf8 chars encode shortest.flag_byte
+left = refl

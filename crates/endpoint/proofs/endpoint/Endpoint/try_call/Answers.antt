@@ -1,7 +1,7 @@
 use Rattle.std.specs.Prelude.{◌+◌, slice_get}
 use Rattle.std.proofs.Common.{◌≡◌, refl, ap}
 use Rattle.rpc_items.specs.Drawn.{drawn}
-use Rattle.rpc_items.specs.Items.{Ask, Cancel, Forget, Report, Respond, TakeReport, Tell}
+use Rattle.rpc_items.specs.Items.{Abort, Ask, Cancel, Forget, Next, Report, Respond, TakeReport, Tell}
 use Rattle.rpc_items.specs.Reports.{reports}
 use Rattle.endpoint_items.specs.declared.call.Call.TheVariants as call
 use Rattle.endpoint_items.specs.declared.reply.Reply.TheVariants as reply
@@ -51,6 +51,19 @@ returns-in-TakeReport-clause-applies c = λ items at rest s.
     let next = slice_get (reports a.n (items_of (rpc_of old.mux.version a.key items))) 0 in
     rw a.is (applied old c.take_report.new.self items at rest (call.TakeReport a.key a.n) (OfConnection a.key (TakeReport a.n)) (λ r. r ≡ next) reply.Report (reply.Report next) refl refl
     (λ r e. ap reply.Report e) (λ r. refl) c.take_report.result c.map-in-TakeReport.result c.map-in-TakeReport.ensures.cases (c.take_report.ensures.answers items at rest s))
+
+pub returns-in-Next-clause-applies : goal.returns-in-Next-clause-applies
+returns-in-Next-clause-applies c = λ items at rest s.
+    let old = c.args.self.now in
+    let a = c.in-Next in
+    let number = drawn (items_of (rpc_of old.mux.version a.key items)) + 1 in
+    rw a.is (applied old c.next.new.self items at rest (call.Next a.key a.n) (OfConnection a.key (Next a.n)) (λ m. m ≡ number) reply.Number (reply.Number number) refl refl
+    (λ m e. ap reply.Number e) (λ m. refl) c.next.result c.map-in-Next.result c.map-in-Next.ensures.cases (c.next.ensures.answers items at rest s))
+
+pub returns-in-Abort-clause-applies : goal.returns-in-Abort-clause-applies
+returns-in-Abort-clause-applies c = λ items at rest s.
+    let a = c.in-Abort in
+    rw a.is (done_applied c.args.self.now c.abort.new.self items at rest (call.Abort a.key a.n) (OfConnection a.key (Abort a.n)) refl refl c.abort.result c.done-in-Abort.result c.done-in-Abort.ensures (c.abort.ensures.answers items at rest s))
 
 pub returns-in-Forget-clause-applies : goal.returns-in-Forget-clause-applies
 returns-in-Forget-clause-applies c = λ items at rest s.
