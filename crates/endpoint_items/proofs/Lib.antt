@@ -23,6 +23,7 @@ pub mod AttachedKeys
 pub mod Empty
 pub mod Writable
 pub mod Exchange
+pub mod Taken
 mod Worked
 mod WorkedEnds
 mod WorkedRefusals

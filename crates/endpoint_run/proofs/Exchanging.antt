@@ -17,8 +17,11 @@ use Rattle.rpc_items.specs.declared.messages.Message.{Message}
 use Rattle.rpc_items.specs.declared.messages.Message.TheVariants.{Request, Notification}
 use Rattle.rpc_items.specs.declared.messages.Message.TheVariants as message
 use Rattle.rpc_items.specs.Answered.{requests, responses}
-use Rattle.rpc_items.specs.Fitting.{AreWritable}
 use Rattle.rpc_items.specs.Ids.{same_id}
+use Rattle.rpc_items.specs.Items.{RpcItem}
+use Rattle.rpc_items.specs.Produced.{produced_at}
+use Rattle.rpc_items.specs.Producing.{answered_values}
+use Rattle.rpc_items.specs.Fitting.{AreWritable, IsFrontOf}
 use Rattle.rpc_items.proofs.Answering.{requests-append}
 use Rattle.rpc_end.specs.declared.terms.Terms as connection
 use Rattle.rpc_end.specs.Texts.{message_texts}
@@ -32,10 +35,11 @@ use Rattle.endpoint_items.proofs.Exchange.{takes_first}
 use Rattle.endpoint_items.proofs.Joining.{reads}
 use Rattle.endpoint_items.proofs.Sound.{answered_once}
 use Rattle.endpoint_items.proofs.Speaking.{spoken}
+use Rattle.endpoint_items.proofs.Taken.{SaidFirst, front_of_later, said_first}
 use Rattle.endpoint_items.proofs.Writable.{said_writable}
 use Rattle.endpoint_run.specs.Run.{EndStep, end_run}
 use Rattle.endpoint_run.specs.Moments.{Moment, at_moment}
-use Rattle.endpoint_run.specs.Exchange.{IsShared, TakesFront, TakesInOrder, AnswersOnce, AnswersEachOnce, IsExchangeIn, IsExchangeRun, SaysMessages, SayMessages}
+use Rattle.endpoint_run.specs.Exchange.{IsShared, TakesFront, TakesInOrder, AnswersOnce, AnswersEachOnce, TakesPages, TakesPagesInOrder, IsExchangeIn, IsExchangeRun, SaysMessages, SayMessages}
 use Rattle.endpoint_run.proofs.Allowing.{run_keeps}
 use Rattle.endpoint_run.proofs.Asked.{asks_once}
 use Rattle.endpoint_run.proofs.Earlier.{moment_grown, said_before}
@@ -84,13 +88,35 @@ first_front : (norm : Message → Message) (n : ℕ) (messages got : List Messag
 first_front norm n messages got e =
     ap (λ got. got ++ map norm (drop n messages)) e ∙ (sym (map-append norm (take n messages) (drop n messages)) ∙ ap (map norm) (take-append-drop n messages))
 
+-- how many messages x took, which are the first that y said
+taken_first : (v : Version) (c : ChannelKey) (x y : List EndItem) → AreAllowed v x → AreAllowed v y → HasPrefixProperty v c (mux_of v x) (mux_of v y) → IsShared v c x y → AreMessages (said_on v (other_key c) y)
+    → (count : ℕ) × (got_on v c x ≡ map (as_read (terms_of c x).encoding) (take count (said_on v (other_key c) y)))
+taken_first v c x y a b p shared are =
+    let messages = said_on v (other_key c) y in
+    let text = heard v c x y a b p shared in
+    let first = takes_first v c x messages text.0 a shared.reader are (said_fits v c x y b shared) text.1 in
+    (first.count, first.are)
+
 takes_front : (v : Version) (c : ChannelKey) (x y : List EndItem) → AreAllowed v x → AreAllowed v y → HasPrefixProperty v c (mux_of v x) (mux_of v y) → IsShared v c x y → AreMessages (said_on v (other_key c) y) → TakesFront v c x y
 takes_front v c x y a b p shared are =
     let messages = said_on v (other_key c) y in
     let norm = as_read (terms_of c x).encoding in
-    let text = heard v c x y a b p shared in
-    let first = takes_first v c x messages text.0 a shared.reader are (said_fits v c x y b shared) text.1 in
-    (map norm (drop first.count messages), first_front norm first.count messages (got_on v c x) first.are)
+    let first = taken_first v c x y a b p shared are in
+    (map norm (drop first.0 messages), first_front norm first.0 messages (got_on v c x) first.1)
+
+-- ---- pages
+
+takes_pages : (v : Version) (c : ChannelKey) (x y : List EndItem) → AreAllowed v x → AreAllowed v y → HasPrefixProperty v c (mux_of v x) (mux_of v y) → IsShared v c x y → AreMessages (said_on v (other_key c) y) → TakesPages v c x y
+takes_pages v c x y a b p shared are =
+    let first = taken_first v c x y a b p shared are in
+    let said : SaidFirst first.0 (items_of (rpc_of v (other_key c) y)) = said_first first.0 (items_of (rpc_of v (other_key c) y)) in
+    record {
+      newer = said.newer;
+      older = said.older;
+      parts = said.parts;
+      took = first.1 ∙ ap (map (as_read (terms_of c x).encoding)) (sym said.said);
+      fronts = λ token. subst (λ (items : List RpcItem). IsFrontOf (answered_values token said.older) (produced_at token items)) said.parts (front_of_later token said.newer said.older);
+    }
 
 -- ---- answers
 
@@ -127,6 +153,9 @@ answers_once v c x y a front = record {
 in_order : (v : Version) (x y : List EndItem) → AreAllowed v x → AreAllowed v y → SaysMessages v y → ((c : ChannelKey) → HasPrefixProperty v c (mux_of v x) (mux_of v y)) → TakesInOrder v x y
 in_order v x y a b says p c shared = takes_front v c x y a b (p c) shared (says (other_key c))
 
+in_pages : (v : Version) (x y : List EndItem) → AreAllowed v x → AreAllowed v y → SaysMessages v y → ((c : ChannelKey) → HasPrefixProperty v c (mux_of v x) (mux_of v y)) → TakesPagesInOrder v x y
+in_pages v x y a b says p c shared = takes_pages v c x y a b (p c) shared (says (other_key c))
+
 each_once : (v : Version) (x y : List EndItem) → AreAllowed v x → TakesInOrder v x y → AnswersEachOnce v x y
 each_once v x y a takes c shared = answers_once v c x y a (takes c shared)
 
@@ -140,7 +169,14 @@ moment_exchanges terms steps moment say =
     let safe = (run_safe terms steps moment).mux in
     let to_a : TakesInOrder v a b = in_order v a b allowed.a allowed.b say.b (λ c. (safe.to_a c).prefix_property) in
     let to_b : TakesInOrder v b a = in_order v b a allowed.b allowed.a say.a (λ c. (safe.to_b c).prefix_property) in
-    record { to_a = to_a; to_b = to_b; answers_a = each_once v a b allowed.a to_a; answers_b = each_once v b a allowed.b to_b }
+    record {
+      to_a = to_a;
+      to_b = to_b;
+      answers_a = each_once v a b allowed.a to_a;
+      answers_b = each_once v b a allowed.b to_b;
+      pages_to_a = in_pages v a b allowed.a allowed.b say.b (λ c. (safe.to_a c).prefix_property);
+      pages_to_b = in_pages v b a allowed.b allowed.a say.a (λ c. (safe.to_b c).prefix_property);
+    }
 
 -- then all that was said before are messages, too
 pub run_exchanges : (terms : Terms) (steps : List EndStep) → SayMessages terms (end_run terms steps) → IsExchangeRun terms steps

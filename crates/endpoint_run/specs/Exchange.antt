@@ -1,5 +1,5 @@
 -- What two connections on one channel take of each other.
-use Rattle.std.specs.Prelude.{◌≡◌, ◌≤◌, List, [], ◌++◌, map, true}
+use Rattle.std.specs.Prelude.{◌≡◌, ◌≤◌, ℕ, List, [], ◌++◌, map, true}
 use Rattle.wire_base.specs.declared.frame.Version.{Version}
 use Rattle.wire_base.specs.declared.text.Id.{Id}
 use Rattle.message_body.specs.AsRead.{as_read, AreMessages}
@@ -8,8 +8,13 @@ use Rattle.mux_items.specs.Bodies.{other_key}
 use Rattle.mux_run.specs.Run.{Terms}
 use Rattle.rpc_items.specs.declared.messages.Message.{Message}
 use Rattle.rpc_items.specs.Answered.{requests, responses}
+use Rattle.rpc_items.specs.Fitting.{IsFrontOf}
+use Rattle.rpc_items.specs.Items.{RpcItem}
+use Rattle.rpc_items.specs.Produced.{produced_at}
+use Rattle.rpc_items.specs.Producing.{answered_values}
+use Rattle.rpc_items.specs.Saying.{all_said}
 use Rattle.endpoint_items.specs.Items.{EndItem, terms_of}
-use Rattle.endpoint_items.specs.Connections.{was_attached}
+use Rattle.endpoint_items.specs.Connections.{items_of, was_attached}
 use Rattle.endpoint_items.specs.Exchange.{said_on, got_on}
 use Rattle.endpoint_items.specs.Joined.{read_first}
 use Rattle.endpoint_items.specs.Layers.{rpc_of}
@@ -43,12 +48,27 @@ pub record AnswersOnce (v : Version) (c : ChannelKey) (x y : List EndItem) : Typ
 abbrev pub AnswersEachOnce : Version → (x y : List EndItem) → Type 0
 AnswersEachOnce v x y = (c : ChannelKey) → IsShared v c x y → AnswersOnce v c x y
 
--- both sides take messages in order, and answer requests once
+-- what x took there is all that y had said at some moment; of each sequence that y answered, the values that it had answered
+-- then, with the result and in pages, are a front of the sequence
+pub record TakesPages (v : Version) (c : ChannelKey) (x y : List EndItem) : Type 0 where
+  pub newer : List RpcItem
+  pub older : List RpcItem
+  pub parts : newer ++ older ≡ items_of (rpc_of v (other_key c) y)
+  pub took : got_on v c x ≡ map (as_read (terms_of c x).encoding) (all_said older)
+  pub fronts : (token : ℕ) → IsFrontOf (answered_values token older) (produced_at token (items_of (rpc_of v (other_key c) y)))
+
+-- so it is on each channel that they share so
+abbrev pub TakesPagesInOrder : Version → (x y : List EndItem) → Type 0
+TakesPagesInOrder v x y = (c : ChannelKey) → IsShared v c x y → TakesPages v c x y
+
+-- both sides take messages in order, and so the pages of sequences, and answer requests once
 pub record IsExchange (v : Version) (a b : List EndItem) : Type 0 where
   pub to_a : TakesInOrder v a b
   pub to_b : TakesInOrder v b a
   pub answers_a : AnswersEachOnce v a b
   pub answers_b : AnswersEachOnce v b a
+  pub pages_to_a : TakesPagesInOrder v a b
+  pub pages_to_b : TakesPagesInOrder v b a
 
 -- so it is between two sides of a world
 abbrev pub IsExchangeIn : Terms → EndWorld → Type 0

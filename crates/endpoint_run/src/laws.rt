@@ -84,8 +84,8 @@ pub fn quiet_runs_deliver_all()
 
 /// Where all that both sides said are messages of the code: on each channel that two connections share from its first byte,
 /// in the same terms, the messages that one side took are the first that the other said, in order and each as it is read,
-/// and each request is answered once at most. So at a moment of any run; and if they are at the end of a run, at each of its
-/// moments.
+/// each request is answered once at most, and of each sequence the values that were answered with what it took are a front,
+/// in order and each once. So at a moment of any run; and if they are at the end of a run, at each of its moments.
 pub fn every_run_exchanges_messages()
     ensures moment { (terms : Terms) (steps : List EndStep) (moment : Moment) → SayMessages terms (at_moment terms steps moment) → IsExchangeIn terms (at_moment terms steps moment) }
     ensures run { (terms : Terms) (steps : List EndStep) → SayMessages terms (end_run terms steps) → IsExchangeRun terms steps }
