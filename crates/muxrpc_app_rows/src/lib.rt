@@ -9,6 +9,8 @@ mod progress;
 #[cfg(test)]
 mod scripts;
 #[cfg(test)]
+mod sequences;
+#[cfg(test)]
 mod statuses;
 #[cfg(test)]
 mod views;

@@ -1,5 +1,5 @@
 -- The rest of a line, written and read.
-use Rattle.std.proofs.Common.{◌≡◌, ℕ, ◌+◌, ◌<◌, Bool, true, false, cond, eqb, ◌⊎◌, inl, inr, List, [], ◌∷◌, ◌++◌, length, map, refl, Option, Some, None, Result, Ok, Err, sym, ap, arith}
+use Rattle.std.proofs.Common.{◌≡◌, ℕ, ◌+◌, ◌<◌, true, cond, eqb, ◌⊎◌, inl, inr, List, [], ◌∷◌, ◌++◌, length, map, refl, Option, Some, None, Result, Ok, Err, sym, ap, arith}
 use Rattle.std.specs.Prelude.{is_some}
 use Rattle.std.specs.List.{list_all, join_by, join_with_byte}
 use Rattle.std.proofs.lemmas.List.{append-nil}
@@ -10,9 +10,8 @@ use Rattle.text_words.specs.Written.{is_text_word}
 use Rattle.text_words.proofs.Joined.{joined-text, joined-words, line-words}
 use Rattle.script.specs.declared.reason.ScriptReason.{ScriptReason}
 use Rattle.script.specs.declared.reason.ScriptReason.TheVariants as reason
-use Rattle.script.specs.declared.fault.LineFault.{LineFault}
 use Rattle.script.specs.Given.{GivesRest}
-use Rattle.script.specs.Rests.{Rest, nothing, json, arguments, string, RestValue, write_rest, text_behind, if_fits, read_rest, is_there, is_of_form}
+use Rattle.script.specs.Rests.{Rest, nothing, json, arguments, string, array, RestValue, write_rest, text_behind, if_fits, read_rest, is_there, is_of_form}
 use Rattle.script.specs.Table.{or_else}
 
 -- ---- texts that have words
@@ -41,6 +40,7 @@ write_rest-texts nothing x h = refl
 write_rest-texts json text h = line-words text h
 write_rest-texts arguments text h = line-words text h
 write_rest-texts string text h = line-words text h
+write_rest-texts array text h = line-words text h
 
 -- a rest is read if it is of its form
 pub read_rest-written : (r : Rest) (x : RestValue r) → read_rest r (write_rest r x) ≡ cond (is_of_form r x) (Ok x) (Err reason.BadJson)
@@ -48,6 +48,7 @@ read_rest-written nothing x = refl
 read_rest-written json text = rw (text_behind-words_of text) refl
 read_rest-written arguments text = rw (text_behind-words_of text) refl
 read_rest-written string text = rw (text_behind-words_of text) refl
+read_rest-written array text = rw (text_behind-words_of text) refl
 
 -- ---- what is read is written so
 
@@ -69,6 +70,9 @@ rest_or_bad_word arguments (word ∷ words) t =
     inr (record { rest = join_with_byte space (word ∷ words); is = sym (joined-words word words t); there = joined-text (word ∷ words) t })
 rest_or_bad_word string [] t = inl refl
 rest_or_bad_word string (word ∷ words) t =
+    inr (record { rest = join_with_byte space (word ∷ words); is = sym (joined-words word words t); there = joined-text (word ∷ words) t })
+rest_or_bad_word array [] t = inl refl
+rest_or_bad_word array (word ∷ words) t =
     inr (record { rest = join_with_byte space (word ∷ words); is = sym (joined-words word words t); there = joined-text (word ∷ words) t })
 
 -- ---- what the readers of texts answer

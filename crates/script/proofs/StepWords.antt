@@ -1,5 +1,5 @@
 -- The words of a line, written and read.
-use Rattle.std.proofs.Common.{◌≡◌, ◌≢◌, ℕ, Bool, true, false, cond, ◌⊎◌, inl, inr, List, [], ◌∷◌, ◌++◌, refl, Option, Some, None, Result, Ok, Err, sym, ap, subst, ◌∙◌}
+use Rattle.std.proofs.Common.{◌≡◌, ◌≢◌, ℕ, Bool, true, false, cond, ◌⊎◌, inl, inr, List, [], ◌∷◌, ◌++◌, refl, Option, Some, None, Result, Ok, Err, sym, ap, ◌∙◌}
 use Rattle.std.specs.List.{list_all, list_any}
 use Rattle.std.specs.Str.{bytes_eq}
 use Rattle.std.proofs.lemmas.Bool.{and_parts}
@@ -15,10 +15,10 @@ use Rattle.script.specs.declared.reason.ScriptReason.{ScriptReason}
 use Rattle.script.specs.declared.reason.ScriptReason.TheVariants as reason
 use Rattle.script.specs.declared.step_word.StepWord.{StepWord}
 use Rattle.script.specs.declared.step_word.StepWord.TheVariants as word
-use Rattle.script.specs.Rests.{RestValue, write_rest, read_rest, is_there, is_of_form, is_rest}
+use Rattle.script.specs.Rests.{RestValue, write_rest, is_there, is_of_form, is_rest}
 use Rattle.script.specs.Table.{word_text, forms_of, rest_of, meaning, step_words}
 use Rattle.script.specs.Spelling.{StepLine, meant_by, step_of, filled_by, line_words, is_spellable, is_worded}
-use Rattle.script.specs.Steps.{word_among, step_word_in, is_later, if_built, step_with, step_from, step_by, step_behind, step_in, begins_step, begins_later}
+use Rattle.script.specs.Steps.{word_among, step_word_in, if_built, step_with, step_from, step_by, step_in, begins_step, begins_later}
 use Rattle.script.proofs.RestTexts.{write_rest-texts, read_rest-written, IsThere, rest_or_bad_word}
 
 -- ---- step words
@@ -35,10 +35,13 @@ visible word.Attach = refl
 visible word.Request = refl
 visible word.Notify = refl
 visible word.Result = refl
+visible word.Sequence = refl
 visible word.Fault = refl
 visible word.Cancel = refl
 visible word.Report = refl
 visible word.Reports = refl
+visible word.Next = refl
+visible word.Abort = refl
 visible word.Outcome = refl
 visible word.Forget = refl
 visible word.Deliver = refl
@@ -57,10 +60,13 @@ step_word_in-text word.Attach = refl
 step_word_in-text word.Request = refl
 step_word_in-text word.Notify = refl
 step_word_in-text word.Result = refl
+step_word_in-text word.Sequence = refl
 step_word_in-text word.Fault = refl
 step_word_in-text word.Cancel = refl
 step_word_in-text word.Report = refl
 step_word_in-text word.Reports = refl
+step_word_in-text word.Next = refl
+step_word_in-text word.Abort = refl
 step_word_in-text word.Outcome = refl
 step_word_in-text word.Forget = refl
 step_word_in-text word.Deliver = refl

@@ -3,7 +3,7 @@
 ghost use Rattle.std.specs.Prelude.{◌≡◌};
 ghost use Rattle.endpoint_items.specs.Built.{is_built_call};
 ghost use Rattle.endpoint_run.specs.Answers.{is_built_step};
-ghost use Rattle.rpc_end.specs.Built.{are_built_args, is_built_arg, is_plain, is_plain_answer};
+ghost use Rattle.rpc_end.specs.Built.{are_built_args, is_built_answer, is_built_arg};
 ghost use Rattle.script.specs.Given.{Gives};
 ghost use Rattle.script.specs.Steps.{if_built};
 
@@ -12,7 +12,7 @@ use crate::line_step::LineStep;
 use crate::reason::ScriptReason;
 use endpoint_items::Call;
 use endpoint_run::Step;
-use rpc_end::{Answer, Arg, Arguments, Expect};
+use rpc_end::{Answer, Arg, Arguments};
 
 fn is_built_arg(arg: &Arg) -> bool
     ensures { result ≡ is_built_arg arg.now }
@@ -29,30 +29,25 @@ fn are_built_args(args: &Arguments) -> bool
     }
 }
 
-fn is_plain(expect: Expect) -> bool
-    ensures { result ≡ is_plain expect }
+fn is_built_answer(answer: &Answer) -> bool
+    ensures { result ≡ is_built_answer answer.now }
 {
-    matches!(expect, Expect::Plain)
-}
-
-fn is_plain_answer(answer: &Answer) -> bool
-    ensures { result ≡ is_plain_answer answer.now }
-{
-    matches!(answer, Answer::Value(_) | Answer::Fault(_, _, _))
+    !matches!(answer, Answer::Object(_))
 }
 
 fn is_built_call(call: &Call) -> bool
     ensures { result ≡ is_built_call call.now }
 {
     match call {
-        Call::Request(_, _, args, expect) => are_built_args(args) && is_plain(*expect),
-        Call::Notify(_, _, args) => are_built_args(args),
-        Call::Respond(_, _, answer) => is_plain_answer(answer),
+        Call::Request(_, _, args, _) | Call::Notify(_, _, args) => are_built_args(args),
+        Call::Respond(_, _, answer) => is_built_answer(answer),
         Call::Mux(_)
         | Call::Attach(_, _)
         | Call::Cancel(_, _)
         | Call::Report(_, _, _, _)
         | Call::TakeReport(_, _)
+        | Call::Next(_, _)
+        | Call::Abort(_, _)
         | Call::Outcome(_, _)
         | Call::Forget(_, _) => true,
     }

@@ -1,6 +1,6 @@
 //! What holds of scripts and their texts.
 
-ghost use Rattle.std.specs.Prelude.{◌≡◌, ◌≢◌, ◌≤◌, ◌↔◌, ◌+◌, ◌⊎◌, ◌++◌, ℕ, List, Bool, true, false, length};
+ghost use Rattle.std.specs.Prelude.{◌≡◌, ◌≢◌, ◌≤◌, ◌↔◌, ◌+◌, ◌⊎◌, ◌++◌, ℕ, List, true, false, length};
 ghost use Rattle.endpoint_run.specs.declared.steps.Step.{Step};
 ghost use Rattle.mux_run.specs.Run.{Terms};
 ghost use Rattle.script.specs.declared.reason.ScriptReason.{ScriptReason};

@@ -1,6 +1,6 @@
 //! Scripts from their bytes.
 
-ghost use Rattle.std.specs.Prelude.{◌≡◌, ◌+◌, ◌<◌, ◌≤◌, ℕ, List, [], true, length, IfOk, OnOk};
+ghost use Rattle.std.specs.Prelude.{◌≡◌, ◌+◌, ◌<◌, ◌≤◌, List, [], true, IfOk, OnOk};
 ghost use Rattle.endpoint_run.specs.Answers.{are_built_steps};
 ghost use Rattle.mux_run.specs.Run.{Terms, terms_of};
 ghost use Rattle.script.specs.Found.{script_in, version_from, nonces_from, nonce_b_from, steps_from, reads, IsScriptOf};

@@ -3,15 +3,15 @@
 ghost use Rattle.std.specs.Prelude.{◌≡◌, map, IfOk, string_bytes};
 ghost use Rattle.std.specs.List.{join_with_byte};
 ghost use Rattle.script.specs.Given.{Gives, GivesRest};
-ghost use Rattle.script.specs.Rests.{text_behind, read_rest, json, arguments, string};
-ghost use Rattle.script.specs.Table.{arguments_said, json_said, string_said};
+ghost use Rattle.script.specs.Rests.{text_behind, read_rest, json, arguments, string, array};
+ghost use Rattle.script.specs.Table.{arguments_said, array_said, json_said, string_said};
 ghost use Rattle.text_words.specs.Bytes.{space};
 
 use crate::fault::LineFault;
 use crate::reason::ScriptReason;
 use rpc_end::Arguments;
 use std::alloc::Global;
-use wire_base::{Datum, OutOfMemory, Text};
+use wire_base::{Datum, DatumList, OutOfMemory, Text};
 
 const BAD_JSON: LineFault = LineFault::Refused(ScriptReason::BadJson);
 
@@ -47,6 +47,14 @@ pub fn string(alloc: Global, words: &[&str]) -> Result<Text, LineFault>
 {
     let text = text(alloc, words)?;
     text_words::string(alloc, text.as_str())?.ok_or(BAD_JSON)
+}
+
+/// The values of the JSON array that it is.
+pub fn array(alloc: Global, words: &[&str]) -> Result<DatumList, LineFault>
+    ensures { GivesRest array_said result (read_rest array (map (λ w. w.now) words.now)) }
+{
+    let text = text(alloc, words)?;
+    text_words::array(alloc, text.as_str())?.ok_or(BAD_JSON)
 }
 
 /// The arguments that it is.

@@ -17,10 +17,13 @@ pub enum StepWord {
     Request,
     Notify,
     Result,
+    Sequence,
     Fault,
     Cancel,
     Report,
     Reports,
+    Next,
+    Abort,
     Outcome,
     Forget,
     Deliver,
@@ -43,10 +46,13 @@ pub fn step_word(word: &str) -> Option<StepWord>
         "request" => Some(StepWord::Request),
         "notify" => Some(StepWord::Notify),
         "result" => Some(StepWord::Result),
+        "sequence" => Some(StepWord::Sequence),
         "fault" => Some(StepWord::Fault),
         "cancel" => Some(StepWord::Cancel),
         "report" => Some(StepWord::Report),
         "reports" => Some(StepWord::Reports),
+        "next" => Some(StepWord::Next),
+        "abort" => Some(StepWord::Abort),
         "outcome" => Some(StepWord::Outcome),
         "forget" => Some(StepWord::Forget),
         "deliver" => Some(StepWord::Deliver),
@@ -60,7 +66,7 @@ pub fn is_later(word: &str) -> bool
     ensures { result ≡ is_later word.now }
 {
     match word {
-        "object" | "sequence" | "next" | "abort" | "invoke" | "release" => true,
+        "object" | "invoke" | "release" => true,
         _ => false,
     }
 }

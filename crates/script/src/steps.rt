@@ -204,6 +204,23 @@ fn result(alloc: Global, words: &[&str]) -> Result<LineStep, LineFault>
 }
 
 #[tactic(auto, unfolding(crate::specs::Steps::step_by))]
+fn sequence(alloc: Global, words: &[&str]) -> Result<LineStep, LineFault>
+    ensures { Gives (λ s. s) result (step_by StepWord.Sequence (map (λ w. w.now) words.now)) }
+{
+    let [side, channel, id, page, first, rest @ ..] = words else {
+        return Err(BAD_WORD);
+    };
+    let side = text_words::side(side).ok_or(BAD_WORD)?;
+    let channel = text_words::channel(channel).ok_or(BAD_WORD)?;
+    let id = text_words::json_id(alloc, id)?.ok_or(BAD_WORD)?;
+    let page = text_words::number(page).ok_or(BAD_WORD)?;
+    let first = text_words::number(first).ok_or(BAD_WORD)?;
+    let values = rest::array(alloc, rest)?;
+    let answer = Answer::Sequence(values, page, first);
+    Ok(calls(side, Call::Respond(channel.key(side), id, answer)))
+}
+
+#[tactic(auto, unfolding(crate::specs::Steps::step_by))]
 fn fault(alloc: Global, words: &[&str]) -> Result<LineStep, LineFault>
     ensures { Gives (λ s. s) result (step_by StepWord.Fault (map (λ w. w.now) words.now)) }
 {
@@ -258,6 +275,32 @@ fn reports(words: &[&str]) -> Result<LineStep, LineFault>
     let channel = text_words::channel(channel).ok_or(BAD_WORD)?;
     let number = u64::from(text_words::number(number).ok_or(BAD_WORD)?);
     Ok(calls(side, Call::TakeReport(channel.key(side), number)))
+}
+
+#[tactic(auto, unfolding(crate::specs::Steps::step_by))]
+fn next(words: &[&str]) -> Result<LineStep, LineFault>
+    ensures { Gives (λ s. s) result (step_by StepWord.Next (map (λ w. w.now) words.now)) }
+{
+    let [side, channel, number] = words else {
+        return Err(BAD_WORD);
+    };
+    let side = text_words::side(side).ok_or(BAD_WORD)?;
+    let channel = text_words::channel(channel).ok_or(BAD_WORD)?;
+    let number = u64::from(text_words::number(number).ok_or(BAD_WORD)?);
+    Ok(calls(side, Call::Next(channel.key(side), number)))
+}
+
+#[tactic(auto, unfolding(crate::specs::Steps::step_by))]
+fn abort(words: &[&str]) -> Result<LineStep, LineFault>
+    ensures { Gives (λ s. s) result (step_by StepWord.Abort (map (λ w. w.now) words.now)) }
+{
+    let [side, channel, number] = words else {
+        return Err(BAD_WORD);
+    };
+    let side = text_words::side(side).ok_or(BAD_WORD)?;
+    let channel = text_words::channel(channel).ok_or(BAD_WORD)?;
+    let number = u64::from(text_words::number(number).ok_or(BAD_WORD)?);
+    Ok(calls(side, Call::Abort(channel.key(side), number)))
 }
 
 #[tactic(auto, unfolding(crate::specs::Steps::step_by))]
@@ -325,10 +368,13 @@ fn step_by(alloc: Global, word: StepWord, words: &[&str]) -> Result<LineStep, Li
         StepWord::Request => request(alloc, words),
         StepWord::Notify => notify(alloc, words),
         StepWord::Result => result(alloc, words),
+        StepWord::Sequence => sequence(alloc, words),
         StepWord::Fault => fault(alloc, words),
         StepWord::Cancel => cancel(words),
         StepWord::Report => report(alloc, words),
         StepWord::Reports => reports(words),
+        StepWord::Next => next(words),
+        StepWord::Abort => abort(words),
         StepWord::Outcome => outcome(words),
         StepWord::Forget => forget(words),
         StepWord::Deliver => deliver(words),

@@ -6,7 +6,7 @@ use Rattle.rpc_items.specs.declared.calls.Arguments.TheVariants.{List as Listed,
 use Rattle.wire_base.proofs.Back.{pair_list_of-pairs_of}
 use Rattle.rpc_items.proofs.Reading.{list_of-trees_of}
 use Rattle.text_words.specs.Written.{hyphen}
-use Rattle.text_words.specs.Json.{arg_of, marked_in, object_in, json_in, arguments_in}
+use Rattle.text_words.specs.Json.{arg_of, array_in, marked_in, object_in, json_in, arguments_in}
 
 -- an object has two parts
 pub object_in-other : (values : List Tree) → length values ≢ 2 → object_in (items (trees_of values)) ≡ None
@@ -20,6 +20,10 @@ pub marked_in-other : (members : List (List ℕ × Tree)) → length members ≢
 marked_in-other [] h = refl
 marked_in-other (a ∷ []) h = absurd (h refl)
 marked_in-other (a ∷ b ∷ members) h = refl
+
+pub array_in-items : (text : List ℕ) (values : List Tree) → json_in text ≡ Some (items (trees_of values)) → array_in text ≡ Some values
+unfolding array_in
+array_in-items text values e = rw (e, list_of-trees_of values) refl
 
 pub arguments_in-items : (text : List ℕ) (values : List Tree) → bytes_eq text hyphen ≡ false → json_in text ≡ Some (items (trees_of values))
     → arguments_in text ≡ Some (Listed (map arg_of values))

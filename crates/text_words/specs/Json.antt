@@ -32,6 +32,15 @@ text_of value = None
 unfoldable pub string_in : List ℕ → Option (List ℕ)
 string_in text = option_and_then text_of (json_in text)
 
+-- the values that an array has
+abbrev pub values_of : Tree → Option (List Tree)
+values_of (items values) = Some (list_of values)
+values_of value = None
+
+-- the values of the JSON array that a text is
+unfoldable pub array_in : List ℕ → Option (List Tree)
+array_in text = option_and_then values_of (json_in text)
+
 -- the lifetime with this name
 abbrev pub lifetime_in : List ℕ → Option Lifetime
 lifetime_in name = if bytes_eq name (codes "call") then Some Call else if bytes_eq name (codes "explicit") then Some Explicit else None

@@ -1,7 +1,7 @@
 //! JSON texts of a script. A text that isn't of its form is read as nothing.
 
 ghost use Rattle.std.specs.Prelude.{◌≡◌, map, IfOk};
-ghost use Rattle.text_words.specs.Json.{json_in, json_id_in, string_in, arguments_in, arg_of, marked_in, marked, progress_in, object_in, object_of, handed_in, natural_in, natural_of, lifetime_in};
+ghost use Rattle.text_words.specs.Json.{json_in, json_id_in, string_in, array_in, arguments_in, arg_of, marked_in, marked, progress_in, object_in, object_of, handed_in, natural_in, natural_of, lifetime_in};
 
 use json_value::JsonFault;
 use rpc_items::{Arg, ArgList, Arguments, Lifetime};
@@ -41,6 +41,20 @@ pub fn string(alloc: Global, text: &str) -> Result<Option<Text>, OutOfMemory>
     };
     match value.node {
         Node::Words(text) => Ok(Some(text)),
+        _ => Ok(None),
+    }
+}
+
+/// The values of the JSON array that a text is.
+#[tactic(auto, unfolding(crate::specs::Json::array_in))]
+pub fn array(alloc: Global, text: &str) -> Result<Option<DatumList>, OutOfMemory>
+    ensures { IfOk result (λ o. o ≡ array_in text.now) }
+{
+    let Some(value) = json(alloc, text)? else {
+        return Ok(None);
+    };
+    match value.node {
+        Node::Items(values) => Ok(Some(values)),
         _ => Ok(None),
     }
 }

@@ -8,7 +8,7 @@ mod push;
 mod read;
 
 pub use channel_name::{ChannelName, other_side};
-pub use json_texts::{arguments, json, json_id, string};
+pub use json_texts::{arguments, array, json, json_id, string};
 pub use laws::words_are_read_as_written;
 pub use push::{
     push_bytes, push_channel, push_decimal, push_hex, push_line_feed, push_side, push_text,
