@@ -4,6 +4,3 @@
 mod codec;
 
 pub use codec::AnyCodec;
-
-#[cfg(test)]
-mod tests;

@@ -10,6 +10,3 @@ mod table;
 pub use answers::{Heard, Look, Settled};
 pub use rpc_items::{Expect, Outcome};
 pub use table::CallTable;
-
-#[cfg(test)]
-mod tests;

@@ -9,8 +9,6 @@ mod outgoing;
 mod queue;
 mod refusals;
 mod take_fault;
-#[cfg(test)]
-mod tests;
 mod views;
 
 pub use channel::Channel;

@@ -12,6 +12,3 @@ mod sequence;
 pub use consumer::Consumer;
 pub use pages::{is_last_page, page_value, sequence_value, token_of};
 pub use producer::Producer;
-
-#[cfg(test)]
-mod tests;

@@ -57,6 +57,3 @@ impl FrameCodec for PackCodec {
         Ok(())
     }
 }
-
-#[cfg(test)]
-mod tests;

@@ -7,6 +7,3 @@ mod reading;
 mod writing;
 
 pub use codec::V1Codec;
-
-#[cfg(test)]
-mod tests;

@@ -15,6 +15,3 @@ pub use laws::{
 pub use reader::read;
 pub use rpc_items::{Message, Params};
 pub use writer::{append, write};
-
-#[cfg(test)]
-mod tests;

@@ -20,6 +20,3 @@ pub use laws::{
 pub use next_body::NextBody;
 pub use reader::MessageReader;
 pub use wrapping::wrap;
-
-#[cfg(test)]
-mod tests;

@@ -11,6 +11,3 @@ pub use members::id_in;
 pub use reader::of_datum;
 pub use rpc_items::{Message, Params};
 pub use writer::to_datum;
-
-#[cfg(test)]
-mod tests;

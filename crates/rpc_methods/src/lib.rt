@@ -14,6 +14,3 @@ pub use names::{
 };
 pub use reserved::{is_reserved, is_reserved_value};
 pub use rpc_items::{Meaning, Params};
-
-#[cfg(test)]
-mod tests;

@@ -6,6 +6,3 @@ mod limits;
 
 pub use laws::{sequences_are_refused_in_order, tested_pages_fit};
 pub use limits::{check_pages, check_values};
-
-#[cfg(test)]
-mod tests;

@@ -53,6 +53,3 @@ pub use tokens::{
 };
 pub use values::{holds_bytes, nests_within};
 pub use whole::Whole;
-
-#[cfg(test)]
-mod tests;

@@ -1,7 +1,7 @@
 //! Worked messages, in MessagePack. The first table begins with the examples of JSON-RPC 2.0.
 
-use crate::{Message, MessageFault, Params, of_datum, to_datum};
 use pack_value::{Step, decode, encode};
+use rpc_message::{Message, MessageFault, Params, of_datum, to_datum};
 use std::alloc::Global;
 use std::test::Fail;
 use wire_base::{Datum, DatumList, Id, Node, Place, Text, Whole};

@@ -1,6 +1,6 @@
 //! Worked requests.
 
-use crate::{CallTable, Expect, Heard, Look, Outcome, Settled};
+use call_table::{CallTable, Expect, Heard, Look, Outcome, Settled};
 use std::test::Fail;
 use wire_base::{Datum, Id, Node, OutOfMemory, Refusal, Text, Whole};
 

@@ -1,5 +1,11 @@
-use super::*;
+//! Heads of tokens, numbers, texts, and sources and sinks in memory.
+
 use std::test::Fail;
+use wire_base::{
+    Blob, Calls, Cause, Datum, DatumList, Failed, HeadStep, Id, MemSink, MemSource, Node,
+    OutOfMemory, PairList, Reason, Refusal, Sink, Source, Text, TextFault, TokenHead, Whole, head,
+    push_array_head, push_bin_head, push_map_head, push_str_head, push_whole,
+};
 
 #[test]
 fn heads_are_read_whole_or_cut(rt: HostRuntime) {

@@ -1,5 +1,7 @@
-use crate::V1Codec;
+//! Frames of version 1.
+
 use frame_text::FrameCodec;
+use frame_v1::V1Codec;
 use std::alloc::Global;
 use std::process::Abort;
 use std::test::Fail;

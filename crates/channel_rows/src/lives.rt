@@ -1,6 +1,6 @@
 //! The life of a channel: what happens, how it is answered, what is sent then, and where the channel stands.
 
-use crate::{Channel, Due, TakeFault};
+use channel_credit::{Channel, Due, TakeFault};
 use mux_items::{GREATEST_WINDOW, MOST_WINDOWS, Phase};
 use std::alloc::Global;
 use std::process::Abort;
@@ -55,7 +55,8 @@ fn of_frame(answer: Result<(), Reason>) -> Answer {
 }
 
 fn accept(channel: &mut Channel, window: u32) -> Answer {
-    if channel.own || window > GREATEST_WINDOW {
+    let refusal = channel.accept_refusal(0, window);
+    if matches!(refusal, Some(Refusal::WrongSide)) || window > GREATEST_WINDOW {
         return Answer::Unfit;
     }
     of_call(channel.accept(window))

@@ -1,7 +1,7 @@
 //! Worked methods, with their parameters in MessagePack.
 
-use crate::{Params, is_reserved, is_reserved_value, meaning_of};
 use pack_value::{Step, decode};
+use rpc_methods::{Params, is_reserved, is_reserved_value, meaning_of};
 use std::alloc::Global;
 use std::test::Fail;
 use wire_base::{Datum, Node, Place, Text};

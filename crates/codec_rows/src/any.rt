@@ -1,4 +1,6 @@
-use super::*;
+//! Frames of a version that is known only as the program runs.
+
+use any_codec::AnyCodec;
 use frame_reader::{FrameReader, Next};
 use std::alloc::Global;
 use std::process::Abort;

@@ -1,6 +1,6 @@
 //! Worked sequences.
 
-use crate::{Consumer, Producer, page_value, sequence_value};
+use enumerables::{Consumer, Producer, page_value, sequence_value};
 use rpc_items::{Expect, Outcome};
 use std::alloc::Global;
 use std::test::Fail;

@@ -1,6 +1,6 @@
 //! Worked bodies, in both encodings.
 
-use crate::{BodyFault, Encoding, Message, Params, read, write};
+use message_body::{BodyFault, Encoding, Message, Params, read, write};
 use std::alloc::Global;
 use std::test::Fail;
 use wire_base::{Blob, CallFault, Datum, DatumList, Id, Node, Reason, Refusal, Text, Whole};

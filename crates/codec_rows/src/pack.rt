@@ -1,7 +1,11 @@
-use super::*;
+//! Frames of versions 2 and 3.
+
+use frame_pack::PackCodec;
+use frame_text::FrameCodec;
+use std::alloc::Global;
 use std::process::Abort;
 use std::test::Fail;
-use wire_base::Reason;
+use wire_base::{Frame, FrameStep, Place, Reason, Version};
 
 fn bytes_of(alloc: Global, hex: &str) -> Result<Vec<u8>, Fail> {
     let mut bytes = Vec::new(alloc);

@@ -1,4 +1,6 @@
-use super::*;
+//! Bodies in streams of both framings, in pieces.
+
+use message_framing::{Framing, Front, MessageReader, NextBody, wrap};
 use std::alloc::Global;
 use std::test::Fail;
 use wire_base::{Place, Reason};

@@ -1,7 +1,7 @@
 //! Worked values and pages.
 
-use crate::{check_pages, check_values};
 use message_body::Encoding;
+use sequence_limits::{check_pages, check_values};
 use std::alloc::Global;
 use std::test::Fail;
 use wire_base::{Blob, CallFault, Datum, DatumList, Node, Refusal, Whole};
