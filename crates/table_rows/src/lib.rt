@@ -1,6 +1,8 @@
-//! Requests, sequences and their limits, as tables. Only tests and their helpers live here.
+//! Requests, sequences with their limits, and handles, as tables. Only tests and their helpers live here.
 #![tactic(auto)]
 
+#[cfg(test)]
+mod handles;
 #[cfg(test)]
 mod limits;
 #[cfg(test)]

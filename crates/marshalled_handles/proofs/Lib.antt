@@ -1,0 +1,16 @@
+pub mod Back
+pub mod Places
+pub mod Ending
+pub mod Owned
+pub mod Owning
+pub mod Finding
+pub mod Adopting
+pub mod Search
+pub mod Holding
+pub mod Reading
+pub mod After
+pub mod Passing
+pub mod Sides
+pub mod Arguments
+pub mod Numbers
+pub mod Carried
