@@ -1,9 +1,13 @@
 pub mod Answering
+pub mod Asking
 pub mod Responding
+pub mod Past
 pub mod Named
-pub mod Plain
+pub mod Settling
 pub mod Sequences
 pub mod Heeded
+pub mod Kept
 pub mod Said
+pub mod Texts
 pub mod Sound
 pub mod Stepping

@@ -1,6 +1,6 @@
 -- What messages are to the sequences of an end, by what it holds, and by its items.
-use Rattle.std.specs.Prelude.{ℕ, ◌+◌, List, [], ◌∷◌, Bool, true, false, ◌&&◌, ◌||◌, is_none, is_some, max, nat_lt, if◌then◌else◌, Option, Some, None}
-use Rattle.std.proofs.Common.{◌≡◌, refl, sym, ◌∙◌, ap, subst, arith}
+use Rattle.std.specs.Prelude.{ℕ, ◌+◌, List, [], ◌∷◌, Bool, true, false, ◌&&◌, ◌||◌, max, nat_lt, if◌then◌else◌, Option, Some, None}
+use Rattle.std.proofs.Common.{◌≡◌, refl, sym, ◌∙◌, ap, arith}
 use Rattle.wire_base.specs.Tree.{Tree}
 use Rattle.wire_base.specs.Values.{holds_bytes, nesting}
 use Rattle.wire_base.specs.declared.refusal.Refusal.TheVariants as refusal
@@ -16,12 +16,11 @@ use Rattle.rpc_items.specs.declared.methods.Meaning.{Meaning}
 use Rattle.rpc_items.specs.declared.methods.Meaning.TheVariants.{Turns, Aborts}
 use Rattle.rpc_items.specs.Automatic.{page_by, turned}
 use Rattle.rpc_items.specs.Bodies.{Encoder, body_refusal, most_nested}
-use Rattle.rpc_items.specs.Drawn.{Asked, asked_at, is_drawn}
+use Rattle.rpc_items.specs.Drawn.{Asked, asked_at}
 use Rattle.rpc_items.specs.Fitting.{Fits, IsFair, IsNamed, page_to_come}
-use Rattle.rpc_items.specs.Ids.{numbered_id, same_id}
 use Rattle.rpc_items.specs.Items.{RpcItem, Got, is_running}
 use Rattle.rpc_items.specs.Meanings.{meaning}
-use Rattle.rpc_items.specs.Outcomes.{answer_to, is_unanswered, request_named}
+use Rattle.rpc_items.specs.Outcomes.{request_named}
 use Rattle.rpc_items.specs.Produced.{Produced, produced_at}
 use Rattle.rpc_items.specs.Producing.{is_abort, is_aborted, is_open, is_turn, page_count, sequence_named}
 use Rattle.rpc_items.specs.Sequences.{expects_sequence}
@@ -32,10 +31,8 @@ use Rattle.message_body.proofs.Lengths.{fair}
 use Rattle.message_body.specs.declared.encoding.Encoding.{Encoding}
 use Rattle.message_body.specs.Written.{encoder}
 use Rattle.call_table.specs.declared.answers.Settled.{Settled}
-use Rattle.call_table.specs.Stands.{TableStands, asked_of, settling_by}
+use Rattle.call_table.specs.Stands.{TableStands}
 use Rattle.call_table.specs.Table.{TableValue, settled_in}
-use Rattle.call_table.proofs.Answering.{same_id_refl}
-use Rattle.call_table.proofs.Reading.{drawn_some, settles_as}
 use Rattle.enumerables.specs.declared.followed.Followed.{Followed}
 use Rattle.enumerables.specs.declared.sequence.Sequence.{Sequence}
 use Rattle.enumerables.specs.Consumer.{settled}
@@ -47,6 +44,7 @@ use Rattle.enumerables.proofs.Tokens.{named_parts as token_parts, pages_as}
 use Rattle.sequence_limits.specs.Fitting.{PagesFit}
 use Rattle.sequence_limits.proofs.Kept.{page_fits}
 use Rattle.rpc_end.specs.Heeding.{consumer_by, followed_by, left_by, page_answer, producer_by, turned_by}
+use Rattle.rpc_end.proofs.Settling.{answers_it, by_response}
 
 -- the answer to a request for a page
 
@@ -105,32 +103,18 @@ module _ (sequences : List Sequence) (items : List RpcItem) (s : ProducerStands 
 
 -- the sequences that are followed, after a message
 
-is_second : (r d n : Bool) → (r && d && n) ≡ true → d ≡ true
-is_second true true n e = refl
-is_second true false n e = absurd (cc e)
-is_second false d n e = absurd (cc e)
-
-unasked : (n : ℕ) (items : List RpcItem) → asked_at n items ≡ None → is_unanswered n items ≡ true → ⊥
-unasked n items none u = cc (sym (is_second (is_running items) (is_drawn n items) (is_none (answer_to n items)) u) ∙ (drawn_some n items ∙ ap (λ (a : Option Asked). is_some a) none))
-
-answers_it : (id : Id) (n : ℕ) (o : Outcome) → id ≡ numbered_id n → (if same_id id (numbered_id n) then Some o else None) ≡ Some o
-answers_it id n o is = ap (λ (b : Bool). if b then Some o else None) (ap (λ (i : Id). same_id i (numbered_id n)) is ∙ same_id_refl (numbered_id n))
-
 module _ (table : TableValue) (followed : List Followed) (items : List RpcItem) (s : TableStands false table items) (c : ConsumerStands followed items) where
-  first_follows : (place : ℕ) (id : Id) (o : Outcome) (m : Message) (n : ℕ) (asked : Option Asked) → IsResponse id o m → is_unanswered n items ≡ true → id ≡ numbered_id n → asked_at n items ≡ asked
-      → ConsumerStands (followed_by (settling_by (Some n) asked) o followed) (Got place m ∷ items)
-  first_follows place id o m n (Some asked) is waits names e =
-      settled_after n asked.expect o place m followed (settled n asked.expect o followed) items refl waits (ap expects_sequence (sym e)) (is n ∙ answers_it id n o names) c
-  first_follows place id o m n None is waits names e = absurd (unasked n items e waits)
-
-  response_settles : (place : ℕ) (id : Id) (o : Outcome) (m : Message) (n : Option ℕ) → IsResponse id o m → request_named id items ≡ n → ConsumerStands (followed_by (settling_by n (asked_of n items)) o followed) (Got place m ∷ items)
-  response_settles place id o m (Some n) is e =
-      let parts = named_parts id items n e in
-      first_follows place id o m n (asked_at n items) is parts.0 parts.1 refl
-  response_settles place id o m None is e = stray_leaves_consumer followed place id o m items is e c
+  first_follows : (place : ℕ) (id : Id) (o : Outcome) (m : Message) (n : ℕ) (asked : Asked) → IsResponse id o m → request_named id items ≡ Some n → asked_at n items ≡ Some asked
+      → ConsumerStands (settled n asked.expect o followed) (Got place m ∷ items)
+  first_follows place id o m n asked is named e =
+      let parts = named_parts id items n named in
+      settled_after n asked.expect o place m followed (settled n asked.expect o followed) items refl parts.0 (ap expects_sequence (sym e)) (is n ∙ answers_it id n o parts.1) c
 
   response_follows : (place : ℕ) (id : Id) (o : Outcome) (m : Message) → IsResponse id o m → ConsumerStands (followed_by (settled_in id table) o followed) (Got place m ∷ items)
-  response_follows place id o m is = subst (λ (x : Settled). ConsumerStands (followed_by x o followed) (Got place m ∷ items)) (sym (settles_as table items id s)) (response_settles place id o m (request_named id items) is refl)
+  response_follows place id o m is =
+      by_response table items s id (λ (x : Settled). ConsumerStands (followed_by x o followed) (Got place m ∷ items))
+      (λ n asked named e. first_follows place id o m n asked is named e)
+      (λ stray. stray_leaves_consumer followed place id o m items is stray c)
 
   pub consumer_stands : (place : ℕ) (m : Message) → ConsumerStands (consumer_by m table followed) (Got place m ∷ items)
   consumer_stands place (Request id method params) = message_leaves_consumer followed place (Request id method params) items (λ n u. refl) c

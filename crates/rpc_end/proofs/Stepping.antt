@@ -23,6 +23,9 @@ use Rattle.call_table.specs.Table.{over}
 use Rattle.call_table.proofs.After.{lost_after}
 use Rattle.enumerables.specs.Producer.{all_ended}
 use Rattle.enumerables.proofs.After.{ended_after, over_after}
+use Rattle.marshalled_handles.specs.Holder as holders
+use Rattle.marshalled_handles.specs.Owner as owners
+use Rattle.marshalled_handles.proofs.After.{own_ended_after, peer_ended_after}
 use Rattle.rpc_end.specs.declared.step.RpcStep.{RpcStep}
 use Rattle.rpc_end.specs.declared.step.RpcStep.TheVariants as step
 use Rattle.rpc_end.specs.Arrivals.{Arrival, Refuses, allowed_arrival, arrival, body_arrival, front_arrival}
@@ -31,7 +34,8 @@ use Rattle.rpc_end.specs.Heeding.{HasId, Steps, body_arrives, broken_by, front_a
 use Rattle.rpc_end.specs.Replies.{Adds, EndsBy, FeedAnswers, StepAnswers, is_spent, most_fed, refused_at}
 use Rattle.rpc_end.specs.Stands.{RpcValue, RpcStands, state_by}
 use Rattle.rpc_end.specs.Texts.{message_texts}
-use Rattle.rpc_end.proofs.Heeded.{broken_is, event_is, said_is, table_stands}
+use Rattle.rpc_end.proofs.Heeded.{broken_is, event_is, said_is}
+use Rattle.rpc_end.proofs.Kept.{holder_stands, owner_stands, table_stands}
 use Rattle.rpc_end.proofs.Named.{has_id}
 use Rattle.rpc_end.proofs.Said.{both_messages, named_then}
 use Rattle.rpc_end.proofs.Sequences.{consumer_stands, producer_stands}
@@ -72,11 +76,12 @@ module _ (old : RpcValue) (items : List RpcItem) (at : ℕ) (rest : List ℕ) (s
       table = lost_after old.table (over Lost old.table) items c refl s.table;
       producer = ended_after c old.producer (all_ended old.producer) items refl s.producer;
       consumer = over_after c old.consumer [] items refl s.consumer;
+      owner = own_ended_after c old.owner (owners.all_ended old.owner) items refl s.owner;
+      holder = peer_ended_after c old.holder (holders.all_ended old.holder) items refl s.holder;
       at_is = s.at_is;
       rest_is = s.rest_is;
       state = refl;
       allowed = (running, s.allowed);
-      built = s.built;
       said = both_messages (all_said items) [] s.said tt;
       named = s.named;
     };
@@ -99,21 +104,22 @@ module _ (old : RpcValue) (items : List RpcItem) (at : ℕ) (rest : List ℕ) (s
 
   -- a message that no rule refuses
 
-  applied : (place size : ℕ) (m : Message) → message_refusal m items ≡ None → HasId m → AreMessages (said_by m old.producer) → Adds old (with_applied size (with_heeded m old)) items (at + size) (drop size rest) (Got place m)
+  applied : (place size : ℕ) (m : Message) → message_refusal m items ≡ None → HasId m → AreMessages (said_by m old) → Adds old (with_applied size (with_heeded m old)) items (at + size) (drop size rest) (Got place m)
   applied place size m ok has says = record {
     stands = record {
-      table = table_stands old.table items s.table s.built place m ok;
+      table = table_stands old items at rest s place m ok;
       producer = producer_stands old.producer items s.producer place m;
       consumer = consumer_stands old.table old.consumer items s.table s.consumer place m;
+      owner = owner_stands old items at rest s place m;
+      holder = holder_stands old items at rest s place m;
       at_is = ap (λ n. n + size) s.at_is;
       rest_is = ap (drop size) s.rest_is;
       state = s.state;
       allowed = ((running, ok), s.allowed);
-      built = s.built;
-      said = both_messages (all_said items) (said (Got place m) items) s.said (subst AreMessages (sym (said_is place m old.producer items s.producer s.built)) says);
+      said = both_messages (all_said items) (said (Got place m) items) s.said (subst AreMessages (sym (said_is old items at rest s place m)) says);
       named = named_then place m items has s.named;
     };
-    output = ap (λ (ms : List Message). old.output ++ message_texts old.terms ms) (sym (said_is place m old.producer items s.producer s.built));
+    output = ap (λ (ms : List Message). old.output ++ message_texts old.terms ms) (sym (said_is old items at rest s place m));
     terms_stay = refl;
   }
 
@@ -121,7 +127,7 @@ module _ (old : RpcValue) (items : List RpcItem) (at : ℕ) (rest : List ℕ) (s
     by_message : (m : Message) (place place' size : ℕ) (broken : Option Reason) (result : RpcStep) → place ≡ place' → message_refusal m items ≡ broken → HasId m → Steps old new (allowed_arrival place m size broken) result
         → StepAnswers old new items at rest None (allowed_arrival place' m size broken) result
     by_message m place place' size None (step.Event e) same ok has h =
-        (h.0 ∙ event_is old.table items s.table s.built m, subst (λ (n : RpcValue). Adds old n items (at + size) (drop size rest) (Got place' m)) (sym h.1) (applied place' size m ok has h.2))
+        (h.0 ∙ event_is old items at rest s m, subst (λ (n : RpcValue). Adds old n items (at + size) (drop size rest) (Got place' m)) (sym h.1) (applied place' size m ok has h.2))
     by_message m place place' size None step.OutOfMemory same ok has h = h.0
     by_message m place place' size None step.Short same ok has h = absurd h
     by_message m place place' size None (step.Ended c) same ok has h = absurd h
@@ -141,7 +147,7 @@ module _ (old : RpcValue) (items : List RpcItem) (at : ℕ) (rest : List ℕ) (s
 
     by_body : (found : Result Message (ℕ × Reason)) (start size : ℕ) (result : RpcStep) → ((m : Message) → found ≡ Ok m → HasId m) → Steps old new (body_arrives old (old.at + start) size found) result → StepAnswers old new items at rest None (body_arrival items (at + start) size found) result
     by_body (Ok m) start size result has h =
-        let broken = broken_is old.table items s.table s.built m in
+        let broken = broken_is old items at rest s m in
         by_message m (old.at + start) (at + start) size (message_refusal m items) result (ap (λ n. n + start) s.at_is) refl (has m refl)
         (subst (λ (b : Option Reason). Steps old new (allowed_arrival (old.at + start) m size b) result) broken h)
     by_body (Err broken) start size result has h = by_refusal (old.at + start + broken.0) (at + start + broken.0) broken.1 result (ap (λ n. n + start + broken.0) s.at_is) h

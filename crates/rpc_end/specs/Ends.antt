@@ -4,6 +4,10 @@ use Rattle.call_table.specs.Table.{TableValue, over}
 use Rattle.enumerables.specs.declared.followed.Followed.{Followed}
 use Rattle.enumerables.specs.declared.sequence.Sequence.{Sequence}
 use Rattle.enumerables.specs.Producer.{all_ended}
+use Rattle.marshalled_handles.specs.declared.own_handle.OwnHandle.{OwnHandle}
+use Rattle.marshalled_handles.specs.declared.peer_handle.PeerHandle.{PeerHandle}
+use Rattle.marshalled_handles.specs.Holder as holders
+use Rattle.marshalled_handles.specs.Owner as owners
 use Rattle.message_framing.specs.Unread.{Unread}
 use Rattle.rpc_items.specs.declared.calls.Outcome.TheVariants.{Lost, Starved}
 use Rattle.rpc_items.specs.declared.messages.Message.{Message}
@@ -18,9 +22,9 @@ use Rattle.rpc_end.specs.Stands.{RpcValue}
 use Rattle.rpc_end.specs.Texts.{message_texts}
 
 -- an end by what it holds
-abbrev pub value_in : Terms → TableValue → List Sequence → List Followed → (output : List ℕ) → Unread → EndState → RpcValue
-value_in terms table producer consumer output reader state =
-    record { terms = terms; table = table; producer = producer; consumer = consumer; output = output; at = reader.at; rest = reader.rest; state = state }
+abbrev pub value_in : Terms → TableValue → List Sequence → List Followed → List OwnHandle → List PeerHandle → (output : List ℕ) → Unread → EndState → RpcValue
+value_in terms table producer consumer owner holder output reader state =
+    record { terms = terms; table = table; producer = producer; consumer = consumer; owner = owner; holder = holder; output = output; at = reader.at; rest = reader.rest; state = state }
 
 abbrev pub with_output : List ℕ → RpcValue → RpcValue
 with_output bytes end = record end { output = bytes }
@@ -34,6 +38,12 @@ with_producer sequences end = record end { producer = sequences }
 abbrev pub with_consumer : List Followed → RpcValue → RpcValue
 with_consumer followed end = record end { consumer = followed }
 
+abbrev pub with_owner : List OwnHandle → RpcValue → RpcValue
+with_owner handles end = record end { owner = handles }
+
+abbrev pub with_holder : List PeerHandle → RpcValue → RpcValue
+with_holder held end = record end { holder = held }
+
 abbrev pub with_rest : List ℕ → RpcValue → RpcValue
 with_rest bytes end = record end { rest = bytes }
 
@@ -45,9 +55,16 @@ with_said messages end = record end { output = end.output ++ message_texts end.t
 abbrev pub with_applied : ℕ → RpcValue → RpcValue
 with_applied size end = record end { at = end.at + size; rest = drop size end.rest }
 
--- the end: requests without a response are lost, and no sequence goes on
+-- the end: requests without a response are lost, no sequence goes on, and every handle has ended
 abbrev pub with_end : Cause → RpcValue → RpcValue
-with_end cause end = record end { table = over Lost end.table; producer = all_ended end.producer; consumer = []; state = state.Ended cause }
+with_end cause end = record end {
+  table = over Lost end.table;
+  producer = all_ended end.producer;
+  consumer = [];
+  owner = owners.all_ended end.owner;
+  holder = holders.all_ended end.holder;
+  state = state.Ended cause;
+}
 
 -- want of memory: requests without a response are starved
 abbrev pub with_stop : RpcValue → RpcValue

@@ -1,43 +1,47 @@
 //! The calls of an end.
 
+ghost use Rattle.call_messages.specs.Messages.{is_plain_answer, release_message};
 ghost use Rattle.call_table.specs.Replies.{cancel_refusal, full_refusal, unless_there};
 ghost use Rattle.call_table.specs.Stands.{StandsDrawn, TableStands};
-ghost use Rattle.call_table.specs.Table.{answered, begun, waits_in, with_cancelled};
+ghost use Rattle.call_table.specs.Table.{begun, waits_in, with_cancelled};
 ghost use Rattle.enumerables.specs.Consumer.{following_refusal, found, turning, without};
 ghost use Rattle.enumerables.specs.Producer.{with_sequence};
+ghost use Rattle.marshalled_handles.specs.Both.{end_in};
+ghost use Rattle.marshalled_handles.specs.Replies.{seen_refusal};
 ghost use Rattle.message_body.specs.AsRead.{AreMessages};
 ghost use Rattle.message_body.specs.Written.{encoder};
-ghost use Rattle.rpc_end.specs.Built.{are_built_args, is_built_answer, is_plain_answer};
-ghost use Rattle.rpc_end.specs.Calls.{Calls, Responds, Tests, finished, page_asked, pages_left, plain_refusal, reply_refusal, response_by, running_refusal, told_refusal};
+ghost use Rattle.rpc_end.specs.Calls.{Calls, Responds, Tests, asking_refusal, finished, invoking_refusal, next_notification, next_number, next_request, page_asked, pages_left, response_by, running_refusal, told_refusal, with_objects, with_released, with_replied, with_request};
 ghost use Rattle.rpc_end.specs.Ends.{Makes, with_consumer, with_output, with_producer, with_said, with_table};
 ghost use Rattle.rpc_end.specs.Replies.{Answers, RefusesStopped};
 ghost use Rattle.rpc_end.specs.Stands.{RpcStands};
 ghost use Rattle.rpc_items.specs.Bodies.{first_refusal, or_else};
-ghost use Rattle.rpc_items.specs.Drawn.{arg_list, drawn, has_progress_arg};
+ghost use Rattle.rpc_items.specs.Drawn.{drawn};
 ghost use Rattle.rpc_items.specs.Fitting.{IsNamed};
-ghost use Rattle.rpc_items.specs.Items.{Abort, Ask, Cancel, Did, Forget, Next, Report, Respond, RpcItem, TakeReport, Tell};
+ghost use Rattle.rpc_items.specs.Items.{Abort, Ask, Cancel, Did, Forget, Invoke, Next, Release, Report, Respond, RpcItem, TakeReport, Tell};
+ghost use Rattle.rpc_items.specs.Methods.{proxy_method};
 ghost use Rattle.rpc_items.specs.Pages.{page_values};
 ghost use Rattle.rpc_items.specs.Reports.{reports};
-ghost use Rattle.rpc_items.specs.Saying.{asks_next, said};
+ghost use Rattle.rpc_items.specs.Saying.{said};
 ghost use Rattle.rpc_items.specs.declared.calls.Answer.TheVariants as answers;
 ghost use Rattle.rpc_items.specs.declared.calls.Expect.TheVariants.{Plain};
 ghost use Rattle.sequence_limits.specs.Limits.{pages_refusal, values_refusal};
 ghost use Rattle.std.specs.Prelude.{◌≡◌, ◌==◌, ◌+◌, ◌∷◌, ◌++◌, [], List, None, OnOk, drop, false, length, slice_get, true, ℕ};
 
-use crate::arguments::has_progress;
 use crate::end::RpcEnd;
-use rpc_items::{Answer, Arguments, Expect};
+use call_messages::{has_progress, in_order};
+use marshalled_handles::release;
+use rpc_items::{Answer, Arguments, Expect, HandleKey};
 use wire_base::{CallFault, Datum, DatumList, EndState, Id, Refusal, Text};
 
 impl RpcEnd {
-    /// Says a request, and answers its number, which is its id and the token of its progress.
+    /// Says a request, and answers its number, which is its id and the token of its progress. Each object among its arguments
+    /// gets the next handle.
     pub fn request(
         &mut self,
         method: &Text,
         args: Arguments,
         expect: Expect,
     ) -> Result<u64, CallFault>
-        requires { are_built_args args ≡ true }
         ensures answers { (items : List RpcItem) (at : ℕ) (rest : List ℕ) → RpcStands self.old items at rest →
             Answers self.old self.new items at rest (Ask method.now args expect) (λ n. n ≡ drawn items + 1) result }
         ensures stopped { RefusesStopped self.old self.new result }
@@ -48,9 +52,8 @@ impl RpcEnd {
         self.finish(asked)
     }
 
-    /// Says a notification.
+    /// Says a notification. Each object among its arguments gets the next handle.
     pub fn notify(&mut self, method: &Text, args: Arguments) -> Result<(), CallFault>
-        requires { are_built_args args ≡ true }
         ensures answers { (items : List RpcItem) (at : ℕ) (rest : List ℕ) → RpcStands self.old items at rest →
             Answers self.old self.new items at rest (Tell method.now args) (λ _. Unit {0}) result }
         ensures stopped { RefusesStopped self.old self.new result }
@@ -64,7 +67,6 @@ impl RpcEnd {
     /// Says the one response to a request of the peer. Where that is a sequence, it has the first values of it, and the token by
     /// which the peer asks for the others, page after page.
     pub fn respond(&mut self, id: &Id, answer: Answer) -> Result<(), CallFault>
-        requires { is_built_answer answer ≡ true }
         ensures answers { (items : List RpcItem) (at : ℕ) (rest : List ℕ) → RpcStands self.old items at rest →
             Answers self.old self.new items at rest (Respond id.now answer) (λ _. Unit {0}) result }
         ensures stopped { RefusesStopped self.old self.new result }
@@ -121,6 +123,37 @@ impl RpcEnd {
         self.check_running()?;
         let left = self.leave_pages(n);
         self.finish(left)
+    }
+
+    /// Says a request to the object of a handle of the peer, and answers its number. Each object among its arguments gets the
+    /// next handle.
+    pub fn invoke(
+        &mut self,
+        handle: u64,
+        method: &Text,
+        args: Arguments,
+        expect: Expect,
+    ) -> Result<u64, CallFault>
+        ensures answers { (items : List RpcItem) (at : ℕ) (rest : List ℕ) → RpcStands self.old items at rest →
+            Answers self.old self.new items at rest (Invoke handle method.now args expect) (λ n. n ≡ drawn items + 1) result }
+        ensures stopped { RefusesStopped self.old self.new result }
+        ensures terms { self.new.terms ≡ self.old.terms }
+    {
+        self.check_running()?;
+        let asked = self.ask_object(handle, method, args, expect);
+        self.finish(asked)
+    }
+
+    /// Releases a handle of either side, and tells the peer.
+    pub fn release(&mut self, key: HandleKey) -> Result<(), CallFault>
+        ensures answers { (items : List RpcItem) (at : ℕ) (rest : List ℕ) → RpcStands self.old items at rest →
+            Answers self.old self.new items at rest (Release key) (λ _. Unit {0}) result }
+        ensures stopped { RefusesStopped self.old self.new result }
+        ensures terms { self.new.terms ≡ self.old.terms }
+    {
+        self.check_running()?;
+        let released = self.let_go(key);
+        self.finish(released)
     }
 
     /// Hands over the oldest report on a request that asked for progress, where one is left, also after the end. It takes no
@@ -183,46 +216,105 @@ impl RpcEnd {
 
     /// Says a request of a running end.
     fn ask(&mut self, method: &Text, args: Arguments, expect: Expect) -> Result<u64, CallFault>
-        requires { are_built_args args ≡ true }
-        ensures calls { Calls self.old self.new (or_else (plain_refusal method.now args) (full_refusal self.old.table)) (asks_next (length self.old.table.requests + 1) method.now args [])
-            (begun expect (has_progress_arg (arg_list args)) self.old.table) (length self.old.table.requests + 1) result }
-        ensures stands { (items : List RpcItem) → TableStands false self.old.table items → OnOk result (StandsDrawn expect (has_progress_arg (arg_list args)) self.new.table items) }
-        ensures said { OnOk result (AreMessages (asks_next (length self.old.table.requests + 1) method.now args [])) }
+        ensures calls { Calls self.old self.new (asking_refusal method.now args self.old) (next_request method.now args self.old) (with_request args expect self.old) (next_number self.old) result }
+        ensures said { OnOk result (AreMessages (next_request method.now args self.old)) }
     {
-        let progress = has_progress(&args);
-        let text = self.request_text(method, args)?;
-        self.draw(expect, progress, text.as_slice())
+        let text = self.request_text(method, &args)?;
+        self.note_request(&args, expect, text.as_slice())
+    }
+
+    /// Says a request of a running end to the object of a handle of the peer.
+    fn ask_object(
+        &mut self,
+        handle: u64,
+        method: &Text,
+        args: Arguments,
+        expect: Expect,
+    ) -> Result<u64, CallFault>
+        ensures calls { Calls self.old self.new (invoking_refusal handle args self.old) (next_request (proxy_method handle method.now) args self.old) (with_request args expect self.old) (next_number self.old) result }
+        ensures said { OnOk result (AreMessages (next_request (proxy_method handle method.now) args self.old)) }
+    {
+        let text = self.invocation_text(handle, method, &args)?;
+        self.note_request(&args, expect, text.as_slice())
+    }
+
+    /// Draws the number of a request and handles for its objects, and says it.
+    fn note_request(
+        &mut self,
+        args: &Arguments,
+        expect: Expect,
+        text: &[u8],
+    ) -> Result<u64, CallFault>
+        requires { full_refusal self.old.table ≡ None }
+        ensures { Makes self.old self.new None None (with_output (self.old.output ++ text.now) (with_request args.now expect self.old)) (next_number self.old) result }
+    {
+        let number = self.draw(expect, has_progress(args), text)?;
+        self.offer(args, Some(number))?;
+        Ok(number)
+    }
+
+    /// Draws handles for the objects among arguments.
+    fn offer(&mut self, args: &Arguments, request: Option<u64>) -> Result<(), CallFault>
+        ensures { Makes self.old self.new None None (with_objects request args.now self.old) tt result }
+    {
+        match self.owner.offer_all(in_order(args), request) {
+            Ok(()) => Ok(()),
+            Err(_) => Err(CallFault::OutOfMemory),
+        }
     }
 
     /// Says a notification of a running end.
     fn tell(&mut self, method: &Text, args: Arguments) -> Result<(), CallFault>
-        requires { are_built_args args ≡ true }
-        ensures calls { Calls self.old self.new (told_refusal method.now args) (said (Did (Tell method.now args)) []) self.old.table tt result }
-        ensures said { OnOk result (AreMessages (said (Did (Tell method.now args)) [])) }
+        ensures calls { Calls self.old self.new (told_refusal method.now args self.old) (next_notification method.now args self.old) (with_objects None args self.old) tt result }
+        ensures said { OnOk result (AreMessages (next_notification method.now args self.old)) }
     {
-        let text = self.notification_text(method, args)?;
-        self.send(text.as_slice())
+        let text = self.notification_text(method, &args)?;
+        self.send(text.as_slice())?;
+        self.offer(&args, None)
+    }
+
+    /// Says that a handle is released.
+    fn let_go(&mut self, key: HandleKey) -> Result<(), CallFault>
+        ensures calls { Calls self.old self.new (seen_refusal (end_in key self.old.owner self.old.holder)) (release_message key ∷ []) (with_released key self.old) tt result }
+        ensures said { OnOk result (AreMessages (release_message key ∷ [])) }
+    {
+        let text = self.release_text(key)?;
+        self.send(text.as_slice())?;
+        release(&mut self.owner, &mut self.holder, key);
+        Ok(())
     }
 
     /// Says a response of a running end.
     fn answer(&mut self, id: &Id, answer: Answer) -> Result<(), CallFault>
-        requires { is_built_answer answer ≡ true }
         ensures responds { Responds self.old self.new id.now answer tt result }
-        ensures said { OnOk result (IsNamed id.now → AreMessages (response_by id.now answer self.old.producer ∷ [])) }
+        ensures said { OnOk result (IsNamed id.now → AreMessages (response_by id.now answer self.old ∷ [])) }
     {
         match answer {
             Answer::Sequence(values, page, first) => self.answer_in_pages(id, values, page, first),
+            Answer::Object(object) => self.answer_by_handle(id, object),
             answer => self.answer_whole(id, answer),
         }
     }
 
-    /// Says a response of a running end that is all that there is to say.
+    /// Says a response of a running end that is a value or an error.
     fn answer_whole(&mut self, id: &Id, answer: Answer) -> Result<(), CallFault>
         requires { is_plain_answer answer ≡ true }
-        ensures calls { Calls self.old self.new (reply_refusal id.now answer self.old.table) (said (Did (Respond id.now answer)) []) (answered id.now self.old.table) tt result }
-        ensures said { OnOk result (IsNamed id.now → AreMessages (said (Did (Respond id.now answer)) [])) }
+        ensures responds { Responds self.old self.new id.now answer tt result }
+        ensures said { OnOk result (IsNamed id.now → AreMessages (response_by id.now answer self.old ∷ [])) }
     {
         let text = self.response_text(id, answer)?;
+        self.reply(id, text.as_slice())
+    }
+
+    /// Says a response of a running end that is an object, which gets the next handle.
+    fn answer_by_handle(&mut self, id: &Id, object: u64) -> Result<(), CallFault>
+        ensures responds { Responds self.old self.new id.now (answers.Object object) tt result }
+        ensures said { OnOk result (IsNamed id.now → AreMessages (response_by id.now (answers.Object object) self.old ∷ [])) }
+    {
+        let text = self.object_text(id, object)?;
+        if self.owner.offer(object, None).is_err() {
+            return Err(CallFault::OutOfMemory);
+        }
         self.reply(id, text.as_slice())
     }
 
@@ -235,7 +327,7 @@ impl RpcEnd {
         first: u32,
     ) -> Result<(), CallFault>
         ensures responds { Responds self.old self.new id.now (answers.Sequence values page first) tt result }
-        ensures said { OnOk result (IsNamed id.now → AreMessages (response_by id.now (answers.Sequence values page first) self.old.producer ∷ [])) }
+        ensures said { OnOk result (IsNamed id.now → AreMessages (response_by id.now (answers.Sequence values page first) self.old ∷ [])) }
     {
         let text = self.pages_text(id, &values, page, first)?;
         self.reply_in_pages(id, values, page, first, text.as_slice())
@@ -255,7 +347,7 @@ impl RpcEnd {
         requires values { values_refusal (encoder self.old.terms.encoding) values ≡ None }
         requires pages { pages_refusal (encoder self.old.terms.encoding) (page_values (length values) page (drop first values)) ≡ None }
         ensures { Makes self.old self.new None None
-            (with_output (self.old.output ++ text.now) (with_producer (with_sequence values page first self.old.producer) (with_table (answered id.now self.old.table) self.old))) tt result }
+            (with_output (self.old.output ++ text.now) (with_producer (with_sequence values page first self.old.producer) (with_replied id.now self.old))) tt result }
     {
         if self.producer.produce(values, page, first).is_err() {
             return Err(CallFault::OutOfMemory);
@@ -266,10 +358,10 @@ impl RpcEnd {
     /// Asks for a page of a sequence that a running end follows.
     fn ask_page(&mut self, n: u64) -> Result<u64, CallFault>
         ensures makes { Makes self.old self.new (or_else (following_refusal (found n self.old.consumer)) (full_refusal self.old.table))
-            (first_refusal (encoder self.old.terms.encoding) (page_asked n (length self.old.table.requests + 1) self.old.consumer))
-            (with_said (page_asked n (length self.old.table.requests + 1) self.old.consumer) (with_consumer (turning n (length self.old.table.requests + 1) self.old.consumer) (with_table (begun Plain false self.old.table) self.old)))
-            (length self.old.table.requests + 1) result }
-        ensures said { OnOk result (AreMessages (page_asked n (length self.old.table.requests + 1) self.old.consumer)) }
+            (first_refusal (encoder self.old.terms.encoding) (page_asked n (next_number self.old) self.old.consumer))
+            (with_said (page_asked n (next_number self.old) self.old.consumer) (with_consumer (turning n (next_number self.old) self.old.consumer) (with_table (begun Plain false self.old.table) self.old)))
+            (next_number self.old) result }
+        ensures said { OnOk result (AreMessages (page_asked n (next_number self.old) self.old.consumer)) }
     {
         let text = self.turn_text(n)?;
         self.note_turn(n, text.as_slice())
@@ -279,8 +371,8 @@ impl RpcEnd {
     fn note_turn(&mut self, n: u64, text: &[u8]) -> Result<u64, CallFault>
         requires { full_refusal self.old.table ≡ None }
         ensures { Makes self.old self.new None None
-            (with_output (self.old.output ++ text.now) (with_consumer (turning n (length self.old.table.requests + 1) self.old.consumer) (with_table (begun Plain false self.old.table) self.old)))
-            (length self.old.table.requests + 1) result }
+            (with_output (self.old.output ++ text.now) (with_consumer (turning n (next_number self.old) self.old.consumer) (with_table (begun Plain false self.old.table) self.old)))
+            (next_number self.old) result }
     {
         let number = self.draw(Expect::Plain, false, text)?;
         self.consumer.turn(n, number);
@@ -301,7 +393,7 @@ impl RpcEnd {
 
     /// Says that a request of a running end is cancelled.
     fn give_up(&mut self, n: u64) -> Result<(), CallFault>
-        ensures calls { Calls self.old self.new (cancel_refusal n self.old.table) (said (Did (Cancel n)) []) (with_cancelled n self.old.table) tt result }
+        ensures calls { Calls self.old self.new (cancel_refusal n self.old.table) (said (Did (Cancel n)) []) (with_table (with_cancelled n self.old.table) self.old) tt result }
         ensures stands { (items : List RpcItem) → TableStands false self.old.table items → OnOk result (TableStands false self.new.table (Did (Cancel n) ∷ items)) }
         ensures said { OnOk result (AreMessages (said (Did (Cancel n)) [])) }
     {
@@ -311,7 +403,7 @@ impl RpcEnd {
 
     /// Says a report of a running end.
     fn tell_progress(&mut self, id: &Id, token: &Id, value: &Datum) -> Result<(), CallFault>
-        ensures calls { Calls self.old self.new (unless_there (waits_in id.now self.old.table)) (said (Did (Report id.now token.now value.now)) []) self.old.table tt result }
+        ensures calls { Calls self.old self.new (unless_there (waits_in id.now self.old.table)) (said (Did (Report id.now token.now value.now)) []) self.old tt result }
         ensures said { OnOk result (AreMessages (said (Did (Report id.now token.now value.now)) [])) }
     {
         let text = self.report_text(id, token, value)?;
@@ -334,7 +426,7 @@ impl RpcEnd {
     /// Draws the number of a request, and says it.
     fn draw(&mut self, expect: Expect, progress: bool, text: &[u8]) -> Result<u64, CallFault>
         requires { full_refusal self.old.table ≡ None }
-        ensures makes { Makes self.old self.new None None (with_output (self.old.output ++ text.now) (with_table (begun expect progress self.old.table) self.old)) (length self.old.table.requests + 1) result }
+        ensures makes { Makes self.old self.new None None (with_output (self.old.output ++ text.now) (with_table (begun expect progress self.old.table) self.old)) (next_number self.old) result }
         ensures stands { (items : List RpcItem) → TableStands false self.old.table items → OnOk result (StandsDrawn expect progress self.new.table items) }
     {
         let number = self.table.begin(expect, progress)?;
@@ -342,15 +434,15 @@ impl RpcEnd {
         Ok(number)
     }
 
-    /// Notes that a request of the peer is answered, and says the response.
+    /// Notes that a request of the peer is answered, with whose response handles may end, and says the response.
     fn reply(&mut self, id: &Id, text: &[u8]) -> Result<(), CallFault>
         requires { waits_in id.now self.old.table ≡ true }
-        ensures makes { Makes self.old self.new None None (with_output (self.old.output ++ text.now) (with_table (answered id.now self.old.table) self.old)) tt result }
-        ensures stands { (items : List RpcItem) (answer : Answer) → TableStands false self.old.table items → OnOk result (TableStands false self.new.table (Did (Respond id.now answer) ∷ items)) }
+        ensures { Makes self.old self.new None None (with_output (self.old.output ++ text.now) (with_replied id.now self.old)) tt result }
     {
         if let Err(refusal) = self.table.answer(id) {
             return Err(CallFault::Refused(refusal));
         }
+        self.holder.responded(id);
         self.send(text)?;
         Ok(())
     }

@@ -1,12 +1,10 @@
 //! One end of a connection for remote calls: its own requests, the peer's, and what is said.
 #![tactic(auto)]
 
-mod arguments;
 mod arriving;
 mod calls;
 mod end;
 mod heeding;
-mod messages;
 mod preparing;
 mod saying;
 mod step;

@@ -1,31 +1,39 @@
 //! Texts of calls, where nothing refuses them.
 
+ghost use Rattle.call_messages.specs.Messages.{is_plain_answer, release_message};
 ghost use Rattle.call_table.specs.Replies.{cancel_refusal, full_refusal, unless_there};
 ghost use Rattle.call_table.specs.Table.{waits_in};
 ghost use Rattle.enumerables.specs.Consumer.{following_refusal, found, token_at};
+ghost use Rattle.marshalled_handles.specs.Both.{end_in};
+ghost use Rattle.marshalled_handles.specs.Replies.{seen_refusal};
 ghost use Rattle.message_body.specs.AsRead.{AreMessages};
 ghost use Rattle.message_body.specs.Replies.{Writes};
 ghost use Rattle.message_body.specs.Written.{encoder};
-ghost use Rattle.rpc_end.specs.Built.{are_built_args, is_plain_answer};
-ghost use Rattle.rpc_end.specs.Calls.{Prepares, Tests, member_refusal, needs_refusal, page_asked, pages_left, plain_refusal, reply_refusal, responding_refusal, response_by, told_refusal, unwritten};
+ghost use Rattle.rpc_end.specs.Calls.{Prepares, Tests, arguments_refusal, asking_refusal, drawing_refusal, invoking_refusal, member_refusal, needs_refusal, next_notification, next_number, next_request, page_asked, pages_left, responding_refusal, response_by, told_refusal, unwritten};
 ghost use Rattle.rpc_end.specs.Texts.{message_texts};
 ghost use Rattle.rpc_items.specs.Bodies.{body_refusal, first_refusal, or_else};
 ghost use Rattle.rpc_items.specs.Arguments.{most_drawn};
+ghost use Rattle.rpc_items.specs.Drawn.{arg_list};
 ghost use Rattle.rpc_items.specs.Fitting.{IsNamed};
-ghost use Rattle.rpc_items.specs.Items.{Cancel, Did, Report, Respond, Tell};
+ghost use Rattle.rpc_items.specs.Items.{Cancel, Did, Report};
+ghost use Rattle.rpc_items.specs.Made.{made_in};
+ghost use Rattle.rpc_items.specs.Methods.{proxy_method};
 ghost use Rattle.rpc_items.specs.Refusals.{reserved_refusal};
-ghost use Rattle.rpc_items.specs.Saying.{asks_next, result_of_sequence, said};
+ghost use Rattle.rpc_items.specs.Saying.{result_of_sequence, said};
 ghost use Rattle.rpc_items.specs.Writing.{message_value};
 ghost use Rattle.rpc_items.specs.Pages.{page_values};
 ghost use Rattle.rpc_items.specs.declared.calls.Answer.TheVariants as answers;
 ghost use Rattle.sequence_limits.specs.Limits.{pages_refusal, values_refusal};
 ghost use Rattle.std.specs.Prelude.{◌≡◌, ◌==◌, ◌≤◌, ◌<◌, ◌+◌, ◌∷◌, [], IfOk, None, OnOk, Some, drop, false, if◌then◌else◌, length, nat_lt, true};
 
-use crate::arguments::{has_needy, has_reserved};
 use crate::end::RpcEnd;
-use crate::messages::{abort, cancellation, notification, report, request, response, turn};
+use call_messages::{
+    abort, cancellation, has_needy, has_reserved, in_order, notification, object_response,
+    proxy_name, release, report, request, response, turn,
+};
 use enumerables::sequence_value;
-use rpc_items::{Answer, Arguments, Message};
+use marshalled_handles::check_handle;
+use rpc_items::{Answer, Arguments, HandleKey, Message};
 use rpc_methods::{is_reserved, is_reserved_value};
 use sequence_limits::{check_pages, check_values as check_sequence};
 use wire_base::{CallFault, Datum, DatumList, Id, OutOfMemory, Refusal, Text};
@@ -63,28 +71,37 @@ fn check_needs(args: &Arguments) -> Result<(), CallFault>
     Ok(())
 }
 
-/// Refuses methods and values that callers may not use, in a request.
-fn check_call(method: &Text, args: &Arguments) -> Result<(), CallFault>
-    ensures { Tests (plain_refusal method.now args.now) result }
-{
-    check_method(method)?;
-    check_values(args)
-}
-
-/// Refuses the same in a notification, and before the values arguments that are for requests alone.
-fn check_notification(method: &Text, args: &Arguments) -> Result<(), CallFault>
-    ensures { Tests (told_refusal method.now args.now) result }
-{
-    check_method(method)?;
-    check_needs(args)?;
-    check_values(args)
-}
-
 impl RpcEnd {
+    /// Refuses arguments: values that callers may not use, handles that can't go back to their owner, and more objects than
+    /// there are handles for.
+    fn check_arguments(&self, args: &Arguments) -> Result<(), CallFault>
+        ensures answer { Tests (arguments_refusal args.now self.now) result }
+        ensures handles { OnOk result (length self.now.owner + length (made_in None (arg_list args.now)) ≤ most_drawn) }
+    {
+        check_values(args)?;
+        if let Err(refusal) = self.holder.check_arguments(in_order(args)) {
+            return Err(CallFault::Refused(refusal));
+        }
+        if let Err(refusal) = self.owner.check_arguments(in_order(args)) {
+            return Err(CallFault::Refused(refusal));
+        }
+        Ok(())
+    }
+
+    /// Refuses the method or the arguments of a notification.
+    fn check_notification(&self, method: &Text, args: &Arguments) -> Result<(), CallFault>
+        ensures answer { Tests (told_refusal method.now args.now self.now) result }
+        ensures handles { OnOk result (length self.now.owner + length (made_in None (arg_list args.now)) ≤ most_drawn) }
+    {
+        check_method(method)?;
+        check_needs(args)?;
+        self.check_arguments(args)
+    }
+
     /// The number of the next request.
     fn next_number(&self) -> Result<u64, CallFault>
         ensures answer { Tests (full_refusal self.now.table) result }
-        ensures number { IfOk result (λ n. n ≡ length self.now.table.requests + 1) }
+        ensures number { IfOk result (λ n. n ≡ next_number self.now) }
         ensures bound { IfOk result (λ n. n ≤ most_drawn) }
     {
         let drawn = self.table.drawn();
@@ -94,20 +111,127 @@ impl RpcEnd {
         Ok(drawn + 1)
     }
 
-    /// The number of the next request, where nothing refuses this one before its text is written.
-    fn check_request(&self, method: &Text, args: &Arguments) -> Result<u64, CallFault>
-        ensures answer { Tests (or_else (plain_refusal method.now args.now) (full_refusal self.now.table)) result }
-        ensures number { IfOk result (λ n. n ≡ length self.now.table.requests + 1) }
+    /// The number of the next request, where nothing refuses one with these arguments.
+    fn check_drawing(&self, args: &Arguments) -> Result<u64, CallFault>
+        ensures answer { Tests (drawing_refusal args.now self.now) result }
+        ensures number { IfOk result (λ n. n ≡ next_number self.now) }
         ensures bound { IfOk result (λ n. n ≤ most_drawn) }
+        ensures handles { OnOk result (length self.now.owner + length (made_in None (arg_list args.now)) ≤ most_drawn) }
     {
-        check_call(method, args)?;
+        self.check_arguments(args)?;
         self.next_number()
+    }
+
+    /// The number of the next request, where nothing refuses this one to the service before its text is written.
+    fn check_request(&self, method: &Text, args: &Arguments) -> Result<u64, CallFault>
+        ensures answer { Tests (asking_refusal method.now args.now self.now) result }
+        ensures number { IfOk result (λ n. n ≡ next_number self.now) }
+        ensures bound { IfOk result (λ n. n ≤ most_drawn) }
+        ensures handles { OnOk result (length self.now.owner + length (made_in None (arg_list args.now)) ≤ most_drawn) }
+    {
+        check_method(method)?;
+        self.check_drawing(args)
+    }
+
+    /// The number of the next request, where nothing refuses this call on a handle of the peer before its text is written.
+    fn check_invocation(&self, handle: u64, args: &Arguments) -> Result<u64, CallFault>
+        ensures answer { Tests (invoking_refusal handle args.now self.now) result }
+        ensures number { IfOk result (λ n. n ≡ next_number self.now) }
+        ensures bound { IfOk result (λ n. n ≤ most_drawn) }
+        ensures handles { OnOk result (length self.now.owner + length (made_in None (arg_list args.now)) ≤ most_drawn) }
+    {
+        if let Err(refusal) = self.holder.check_handle(handle) {
+            return Err(CallFault::Refused(refusal));
+        }
+        self.check_drawing(args)
+    }
+
+    /// The next request, as it is sent.
+    fn numbered_text(
+        &self,
+        number: u64,
+        method: &Text,
+        args: &Arguments,
+    ) -> Result<Vec<u8>, CallFault>
+        requires number { number ≡ next_number self.now }
+        requires bound { number ≤ most_drawn }
+        requires handles { length self.now.owner + length (made_in None (arg_list args.now)) ≤ most_drawn }
+        ensures ok { IfOk result (λ text. text.items ≡ message_texts self.now.terms (next_request method.now args.now self.now)) }
+        ensures answer { Prepares None (first_refusal (encoder self.now.terms.encoding) (next_request method.now args.now self.now)) result }
+        ensures said { OnOk result (AreMessages (next_request method.now args.now self.now)) }
+    {
+        let handles = self.owner.drawn();
+        let Ok(message) = request(self.alloc, number, handles, method, args) else {
+            return Err(CallFault::OutOfMemory);
+        };
+        self.text_of(&message)
+    }
+
+    /// A request to the service, as it is sent.
+    pub(crate) fn request_text(&self, method: &Text, args: &Arguments) -> Result<Vec<u8>, CallFault>
+        ensures ok { IfOk result (λ text. text.items ≡ message_texts self.now.terms (next_request method.now args.now self.now)) }
+        ensures answer { Prepares (asking_refusal method.now args.now self.now) (first_refusal (encoder self.now.terms.encoding) (next_request method.now args.now self.now)) result }
+        ensures said { OnOk result (AreMessages (next_request method.now args.now self.now)) }
+    {
+        let number = self.check_request(method, args)?;
+        self.numbered_text(number, method, args)
+    }
+
+    /// A call on a handle of the peer, as it is sent.
+    pub(crate) fn invocation_text(
+        &self,
+        handle: u64,
+        method: &Text,
+        args: &Arguments,
+    ) -> Result<Vec<u8>, CallFault>
+        ensures ok { IfOk result (λ text. text.items ≡ message_texts self.now.terms (next_request (proxy_method handle method.now) args.now self.now)) }
+        ensures answer { Prepares (invoking_refusal handle args.now self.now) (first_refusal (encoder self.now.terms.encoding) (next_request (proxy_method handle method.now) args.now self.now)) result }
+        ensures said { OnOk result (AreMessages (next_request (proxy_method handle method.now) args.now self.now)) }
+    {
+        let number = self.check_invocation(handle, args)?;
+        let Ok(name) = proxy_name(self.alloc, handle, method) else {
+            return Err(CallFault::OutOfMemory);
+        };
+        self.numbered_text(number, &name, args)
+    }
+
+    /// A notification, as it is sent.
+    pub(crate) fn notification_text(
+        &self,
+        method: &Text,
+        args: &Arguments,
+    ) -> Result<Vec<u8>, CallFault>
+        ensures ok { IfOk result (λ text. text.items ≡ message_texts self.now.terms (next_notification method.now args.now self.now)) }
+        ensures answer { Prepares (told_refusal method.now args.now self.now) (first_refusal (encoder self.now.terms.encoding) (next_notification method.now args.now self.now)) result }
+        ensures said { OnOk result (AreMessages (next_notification method.now args.now self.now)) }
+    {
+        self.check_notification(method, args)?;
+        let handles = self.owner.drawn();
+        let Ok(message) = notification(self.alloc, handles, method, args) else {
+            return Err(CallFault::OutOfMemory);
+        };
+        self.text_of(&message)
+    }
+
+    /// A release of a handle, as it is sent.
+    pub(crate) fn release_text(&self, key: HandleKey) -> Result<Vec<u8>, CallFault>
+        ensures ok { IfOk result (λ text. text.items ≡ message_texts self.now.terms (release_message key ∷ [])) }
+        ensures answer { Prepares (seen_refusal (end_in key self.now.owner self.now.holder)) (first_refusal (encoder self.now.terms.encoding) (release_message key ∷ [])) result }
+        ensures said { OnOk result (AreMessages (release_message key ∷ [])) }
+    {
+        if let Err(refusal) = check_handle(&self.owner, &self.holder, key) {
+            return Err(CallFault::Refused(refusal));
+        }
+        let Ok(message) = release(self.alloc, key) else {
+            return Err(CallFault::OutOfMemory);
+        };
+        self.text_of(&message)
     }
 
     /// Refuses an answer to no waiting request, and values that callers may not use.
     fn check_answer(&self, id: &Id, answer: &Answer) -> Result<(), CallFault>
         requires { is_plain_answer answer.now ≡ true }
-        ensures { Tests (reply_refusal id.now answer.now self.now.table) result }
+        ensures { Tests (responding_refusal id.now answer.now self.now) result }
     {
         if !self.table.waits(id) {
             return Err(CallFault::Refused(Refusal::NoRequest));
@@ -120,48 +244,42 @@ impl RpcEnd {
         }
     }
 
-    /// A request with the next number, as it is sent.
-    pub(crate) fn request_text(&self, method: &Text, args: Arguments) -> Result<Vec<u8>, CallFault>
-        requires { are_built_args args ≡ true }
-        ensures ok { IfOk result (λ text. text.items ≡ message_texts self.now.terms (asks_next (length self.now.table.requests + 1) method.now args [])) }
-        ensures answer { Prepares (or_else (plain_refusal method.now args) (full_refusal self.now.table))
-            (first_refusal (encoder self.now.terms.encoding) (asks_next (length self.now.table.requests + 1) method.now args [])) result }
-        ensures said { OnOk result (AreMessages (asks_next (length self.now.table.requests + 1) method.now args [])) }
-    {
-        let number = self.check_request(method, &args)?;
-        let Ok(message) = request(self.alloc, number, method, args) else {
-            return Err(CallFault::OutOfMemory);
-        };
-        self.text_of(&message)
-    }
-
-    /// A notification, as it is sent.
-    pub(crate) fn notification_text(
-        &self,
-        method: &Text,
-        args: Arguments,
-    ) -> Result<Vec<u8>, CallFault>
-        requires { are_built_args args ≡ true }
-        ensures ok { IfOk result (λ text. text.items ≡ message_texts self.now.terms (said (Did (Tell method.now args)) [])) }
-        ensures answer { Prepares (told_refusal method.now args) (first_refusal (encoder self.now.terms.encoding) (said (Did (Tell method.now args)) [])) result }
-        ensures said { OnOk result (AreMessages (said (Did (Tell method.now args)) [])) }
-    {
-        check_notification(method, &args)?;
-        let Ok(message) = notification(self.alloc, method, args) else {
-            return Err(CallFault::OutOfMemory);
-        };
-        self.text_of(&message)
-    }
-
     /// A response, as it is sent.
     pub(crate) fn response_text(&self, id: &Id, answer: Answer) -> Result<Vec<u8>, CallFault>
         requires { is_plain_answer answer ≡ true }
-        ensures ok { IfOk result (λ text. text.items ≡ message_texts self.now.terms (said (Did (Respond id.now answer)) [])) }
-        ensures answer { Prepares (reply_refusal id.now answer self.now.table) (first_refusal (encoder self.now.terms.encoding) (said (Did (Respond id.now answer)) [])) result }
-        ensures said { OnOk result (IsNamed id.now → AreMessages (said (Did (Respond id.now answer)) [])) }
+        ensures ok { IfOk result (λ text. text.items ≡ message_texts self.now.terms (response_by id.now answer self.now ∷ [])) }
+        ensures answer { Prepares (responding_refusal id.now answer self.now) (unwritten id.now answer self.now) result }
+        ensures said { OnOk result (IsNamed id.now → AreMessages (response_by id.now answer self.now ∷ [])) }
     {
         self.check_answer(id, &answer)?;
         let Ok(message) = response(self.alloc, id, answer) else {
+            return Err(CallFault::OutOfMemory);
+        };
+        self.text_of(&message)
+    }
+
+    /// The next handle, where an object can be the answer to this request.
+    fn check_object(&self, id: &Id, object: u64) -> Result<u64, CallFault>
+        ensures answer { Tests (responding_refusal id.now (answers.Object object) self.now) result }
+        ensures handle { IfOk result (λ handle. handle ≡ length self.now.owner + 1) }
+    {
+        if !self.table.waits(id) {
+            return Err(CallFault::Refused(Refusal::NoRequest));
+        }
+        match self.owner.check(1) {
+            Ok(()) => Ok(self.owner.drawn() + 1),
+            Err(refusal) => Err(CallFault::Refused(refusal)),
+        }
+    }
+
+    /// A response that is an object, as it is sent.
+    pub(crate) fn object_text(&self, id: &Id, object: u64) -> Result<Vec<u8>, CallFault>
+        ensures ok { IfOk result (λ text. text.items ≡ message_texts self.now.terms (response_by id.now (answers.Object object) self.now ∷ [])) }
+        ensures answer { Prepares (responding_refusal id.now (answers.Object object) self.now) (unwritten id.now (answers.Object object) self.now) result }
+        ensures said { OnOk result (IsNamed id.now → AreMessages (response_by id.now (answers.Object object) self.now ∷ [])) }
+    {
+        let handle = self.check_object(id, object)?;
+        let Ok(message) = object_response(self.alloc, id, handle) else {
             return Err(CallFault::OutOfMemory);
         };
         self.text_of(&message)
@@ -175,10 +293,10 @@ impl RpcEnd {
         page: u32,
         first: u32,
     ) -> Result<Vec<u8>, CallFault>
-        ensures ok { IfOk result (λ text. text.items ≡ message_texts self.now.terms (response_by id.now (answers.Sequence values.now page first) self.now.producer ∷ [])) }
-        ensures answer { Prepares (responding_refusal id.now (answers.Sequence values.now page first) self.now.table self.now.producer)
-            (unwritten (encoder self.now.terms.encoding) id.now (answers.Sequence values.now page first) self.now.producer) result }
-        ensures said { OnOk result (IsNamed id.now → AreMessages (response_by id.now (answers.Sequence values.now page first) self.now.producer ∷ [])) }
+        ensures ok { IfOk result (λ text. text.items ≡ message_texts self.now.terms (response_by id.now (answers.Sequence values.now page first) self.now ∷ [])) }
+        ensures answer { Prepares (responding_refusal id.now (answers.Sequence values.now page first) self.now)
+            (unwritten id.now (answers.Sequence values.now page first) self.now) result }
+        ensures said { OnOk result (IsNamed id.now → AreMessages (response_by id.now (answers.Sequence values.now page first) self.now ∷ [])) }
         ensures page { OnOk result ((page == 0) ≡ false) }
         ensures values { OnOk result (values_refusal (encoder self.now.terms.encoding) values.now ≡ None) }
         ensures pages { OnOk result (pages_refusal (encoder self.now.terms.encoding) (page_values (length values.now) page (drop first values.now)) ≡ None) }
@@ -206,7 +324,7 @@ impl RpcEnd {
         page: u32,
         first: u32,
     ) -> Result<(), CallFault>
-        ensures answer { Tests (responding_refusal id.now (answers.Sequence values.now page first) self.now.table self.now.producer) result }
+        ensures answer { Tests (responding_refusal id.now (answers.Sequence values.now page first) self.now) result }
         ensures page { OnOk result ((page == 0) ≡ false) }
         ensures token { OnOk result (first < length values.now → length self.now.producer < most_drawn) }
     {
@@ -268,10 +386,10 @@ impl RpcEnd {
 
     /// A request for a page, as it is sent.
     pub(crate) fn turn_text(&self, n: u64) -> Result<Vec<u8>, CallFault>
-        ensures ok { IfOk result (λ text. text.items ≡ message_texts self.now.terms (page_asked n (length self.now.table.requests + 1) self.now.consumer)) }
+        ensures ok { IfOk result (λ text. text.items ≡ message_texts self.now.terms (page_asked n (next_number self.now) self.now.consumer)) }
         ensures answer { Prepares (or_else (following_refusal (found n self.now.consumer)) (full_refusal self.now.table))
-            (first_refusal (encoder self.now.terms.encoding) (page_asked n (length self.now.table.requests + 1) self.now.consumer)) result }
-        ensures said { OnOk result (AreMessages (page_asked n (length self.now.table.requests + 1) self.now.consumer)) }
+            (first_refusal (encoder self.now.terms.encoding) (page_asked n (next_number self.now) self.now.consumer)) result }
+        ensures said { OnOk result (AreMessages (page_asked n (next_number self.now) self.now.consumer)) }
     {
         let token = self.followed_token(n)?;
         let number = self.next_number()?;

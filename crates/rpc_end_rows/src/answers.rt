@@ -1,6 +1,6 @@
 //! What an end answers, as text.
 
-use rpc_end::{Look, Outcome, Params, RpcEvent, RpcStep};
+use rpc_end::{Look, Outcome, Params, RpcEvent, RpcStep, Target};
 use std::alloc::Global;
 use std::test::Fail;
 use wire_base::{CallFault, Cause, Datum, EndState, Id, Node};
@@ -69,11 +69,20 @@ fn of_params(alloc: Global, params: &Params) -> Result<String, Fail> {
     }
 }
 
+/// The object that is called, and the handle by which it is.
+fn of_target(alloc: Global, target: Target) -> Result<String, Fail> {
+    match target {
+        Target::Root => word(alloc, ""),
+        Target::Object(object, handle) => { Ok(format!(in alloc; "object {object} by {handle} ")?) }
+    }
+}
+
 fn of_event(alloc: Global, event: &RpcEvent) -> Result<String, Fail> {
     match event {
-        RpcEvent::Asked(id, _, method, params) => {
+        RpcEvent::Asked(id, target, method, params) => {
             let (id, params) = (of_id(alloc, id)?, of_params(alloc, params)?);
-            Ok(format!(in alloc; "asked {id} {} {params}", method.as_str())?)
+            let target = of_target(alloc, *target)?;
+            Ok(format!(in alloc; "asked {id} {target}{} {params}", method.as_str())?)
         }
         RpcEvent::Told(method, params) => {
             let params = of_params(alloc, params)?;
@@ -114,6 +123,22 @@ fn of_outcome(alloc: Global, outcome: &Outcome) -> Result<String, Fail> {
         }
         Outcome::Lost => word(alloc, "lost"),
         Outcome::Starved => word(alloc, "starved"),
+    }
+}
+
+/// How a handle stands.
+pub fn of_standing(alloc: Global, lives: Option<bool>) -> Result<String, Fail> {
+    match lives {
+        Some(true) => word(alloc, "live"),
+        Some(false) => word(alloc, "released"),
+        None => word(alloc, "none"),
+    }
+}
+
+pub fn of_number(alloc: Global, number: Option<u64>) -> Result<String, Fail> {
+    match number {
+        Some(n) => Ok(format!(in alloc; "{n}")?),
+        None => word(alloc, "none"),
     }
 }
 

@@ -153,6 +153,49 @@ fn a_call_is_answered_in_every_form(rt: HostRuntime) -> Result<(), Fail> {
     is_answered(&rt, rt.alloc(), Framing::Length, Encoding::Pack)
 }
 
+/// Tells what the ends hear as one hands out an object, and the other one calls it.
+fn pass_an_object(
+    alloc: Global,
+    client: &mut RpcEnd,
+    server: &mut RpcEnd,
+    told: &mut String,
+) -> Result<(), Fail> {
+    says_to(alloc, client, server, "asks make 5", told)?;
+    says_to(alloc, server, client, "gives 1 7", told)?;
+    says_to(alloc, client, server, "invokes 1 bump call:8", told)?;
+    says_to(alloc, server, client, "invokes 1 look", told)?;
+    says_to(alloc, client, server, "releases peer 1", told)
+}
+
+fn passing(alloc: Global, framing: Framing, encoding: Encoding) -> Result<String, Fail> {
+    let mut client = start(alloc, framing, encoding);
+    let mut server = start(alloc, framing, encoding);
+    let mut told = String::new(alloc);
+    pass_an_object(alloc, &mut client, &mut server, &mut told)?;
+    Ok(told)
+}
+
+fn is_passed(
+    rt: &impl Abort,
+    alloc: Global,
+    framing: Framing,
+    encoding: Encoding,
+) -> Result<(), Fail> {
+    let told = passing(alloc, framing, encoding)?;
+    let wanted =
+        "asked 1 make list 1; answered 1; asked 2 object 7 by 1 bump list 1; asked 1 object 8 by 1 look absent; released 1; ";
+    is_told(rt, told.as_str(), wanted);
+    Ok(())
+}
+
+#[test]
+fn an_object_is_passed_in_every_form(rt: HostRuntime) -> Result<(), Fail> {
+    is_passed(&rt, rt.alloc(), Framing::Header, Encoding::Json)?;
+    is_passed(&rt, rt.alloc(), Framing::Header, Encoding::Pack)?;
+    is_passed(&rt, rt.alloc(), Framing::Length, Encoding::Json)?;
+    is_passed(&rt, rt.alloc(), Framing::Length, Encoding::Pack)
+}
+
 /// All that an end says with these two calls.
 fn said(alloc: Global, end: &mut RpcEnd, calls: [&str; 2]) -> Result<Vec<u8>, Fail> {
     let [first, second] = calls;

@@ -15,6 +15,8 @@ mod heeding;
 #[cfg(test)]
 mod messages;
 #[cfg(test)]
+mod objects;
+#[cfg(test)]
 mod pieces;
 #[cfg(test)]
 mod refusing;

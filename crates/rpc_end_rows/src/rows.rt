@@ -1,7 +1,9 @@
 //! Rows of text, and the end that lives through them.
 
-use crate::answers::{of_call, of_drawn, of_look, of_report, of_state, of_step, word};
-use crate::values::{call_of, id_of, number, size, value, values};
+use crate::answers::{
+    of_call, of_drawn, of_look, of_number, of_report, of_standing, of_state, of_step, word,
+};
+use crate::values::{call_of, count, id_of, key_of, number, size, value, values};
 use rpc_end::{Answer, Encoding, Expect, Framing, RpcEnd};
 use std::alloc::Global;
 use std::process::Abort;
@@ -99,6 +101,27 @@ fn aborts(alloc: Global, end: &mut RpcEnd, n: u64) -> Result<String, Fail> {
     of_call(alloc, end.abort(n))
 }
 
+/// The words are a handle of the peer, a method of its object, and arguments.
+fn invokes(alloc: Global, end: &mut RpcEnd, words: &str) -> Result<String, Fail> {
+    let (handle, words) = words.split_once(' ').unwrap_or((words, ""));
+    let (method, args) = call_of(alloc, words)?;
+    of_drawn(
+        alloc,
+        end.invoke(count(handle), &method, args, Expect::Plain),
+    )
+}
+
+fn releases(alloc: Global, end: &mut RpcEnd, words: &str) -> Result<String, Fail> {
+    of_call(alloc, end.release(key_of(words)))
+}
+
+/// The words are the id of a request, and an object.
+fn gives(alloc: Global, end: &mut RpcEnd, words: &str) -> Result<String, Fail> {
+    let (id, object) = words.split_once(' ').unwrap_or((words, ""));
+    let answer = Answer::Object(count(object));
+    of_call(alloc, end.respond(&id_of(alloc, id)?, answer))
+}
+
 fn cancels(alloc: Global, end: &mut RpcEnd, n: u64) -> Result<String, Fail> {
     of_call(alloc, end.cancel(n))
 }
@@ -150,7 +173,20 @@ pub fn outcome(alloc: Global, end: &RpcEnd, n: u64) -> Result<String, Fail> {
 }
 
 fn last(alloc: Global, end: &RpcEnd) -> Result<String, Fail> {
-    Ok(format!(in alloc; "{}", end.last_request())?)
+    of_number(alloc, Some(end.last_request()))
+}
+
+fn last_handle(alloc: Global, end: &RpcEnd) -> Result<String, Fail> {
+    of_number(alloc, Some(end.last_handle()))
+}
+
+fn handle(alloc: Global, end: &RpcEnd, words: &str) -> Result<String, Fail> {
+    of_standing(alloc, end.handle(key_of(words)))
+}
+
+/// The handle at a place among those that were adopted.
+fn adopted(alloc: Global, end: &RpcEnd, words: &str) -> Result<String, Fail> {
+    of_number(alloc, end.peer_handle(size(words) as usize))
 }
 
 fn has_message(alloc: Global, end: &RpcEnd) -> Result<String, Fail> {
@@ -160,8 +196,11 @@ fn has_message(alloc: Global, end: &RpcEnd) -> Result<String, Fail> {
 /// What is seen of the end.
 fn looks(alloc: Global, end: &RpcEnd, name: &str, words: &str) -> Result<String, Fail> {
     match name {
-        "outcome" => outcome(alloc, end, number(words).unsigned_abs()),
+        "outcome" => outcome(alloc, end, count(words)),
         "last" => last(alloc, end),
+        "last-handle" => last_handle(alloc, end),
+        "handle" => handle(alloc, end, words),
+        "adopted" => adopted(alloc, end, words),
         "has-message" => has_message(alloc, end),
         "state" => of_state(alloc, end.state()),
         _ => word(alloc, "no such call"),
@@ -184,14 +223,24 @@ fn befalls(alloc: Global, end: &mut RpcEnd, name: &str, words: &str) -> Result<S
     }
 }
 
+/// What a call about objects answers.
+fn objects_pass(alloc: Global, end: &mut RpcEnd, name: &str, words: &str) -> Result<String, Fail> {
+    match name {
+        "invokes" => invokes(alloc, end, words),
+        "releases" => releases(alloc, end, words),
+        "gives" => gives(alloc, end, words),
+        _ => befalls(alloc, end, name, words),
+    }
+}
+
 /// What a call about sequences answers.
 fn pages_turn(alloc: Global, end: &mut RpcEnd, name: &str, words: &str) -> Result<String, Fail> {
     match name {
         "seeks" => seeks(alloc, end, words),
         "pages" => pages(alloc, end, words),
-        "turns" => turns(alloc, end, number(words).unsigned_abs()),
-        "aborts" => aborts(alloc, end, number(words).unsigned_abs()),
-        _ => befalls(alloc, end, name, words),
+        "turns" => turns(alloc, end, count(words)),
+        "aborts" => aborts(alloc, end, count(words)),
+        _ => objects_pass(alloc, end, name, words),
     }
 }
 
@@ -204,10 +253,10 @@ pub fn happens(alloc: Global, end: &mut RpcEnd, call: &str) -> Result<String, Fa
         "tells" => tells(alloc, end, words),
         "answers" => answers(alloc, end, words),
         "fails" => fails(alloc, end, words),
-        "cancels" => cancels(alloc, end, number(words).unsigned_abs()),
+        "cancels" => cancels(alloc, end, count(words)),
         "reports" => reports(alloc, end, words),
-        "takes" => takes(alloc, end, number(words).unsigned_abs()),
-        "forgets" => forgets(alloc, end, number(words).unsigned_abs()),
+        "takes" => takes(alloc, end, count(words)),
+        "forgets" => forgets(alloc, end, count(words)),
         _ => pages_turn(alloc, end, name, words),
     }
 }

@@ -1,9 +1,6 @@
 //! The values that words stand for.
 
-ghost use Rattle.rpc_end.specs.Built.{are_built_args, is_built_arg};
-ghost use Rattle.std.specs.Prelude.{◌≡◌, IfOk, true};
-
-use rpc_end::{Arg, ArgList, Arguments};
+use rpc_end::{Arg, ArgList, Arguments, HandleKey, Lifetime};
 use std::alloc::Global;
 use std::test::Fail;
 use wire_base::{Blob, Datum, DatumList, Id, Node, PairList, Text, Whole};
@@ -82,55 +79,74 @@ pub fn id_of(alloc: Global, word: &str) -> Result<Id, Fail> {
     }
 }
 
+/// A number from 0 up.
+pub fn count(word: &str) -> u64 {
+    number(word).unsigned_abs()
+}
+
+/// The handle with this number that a side made: `own` or `peer`.
+pub fn key_of(words: &str) -> HandleKey {
+    let (side, word) = words.split_once(' ').unwrap_or((words, ""));
+    HandleKey {
+        number: count(word),
+        own: side == "own",
+    }
+}
+
 /// An argument with a name.
-fn named(alloc: Global, name: &str, word: &str) -> Result<Arguments, Fail>
-    ensures { IfOk result (λ args. are_built_args args ≡ true) }
-{
+fn named(alloc: Global, name: &str, word: &str) -> Result<Arguments, Fail> {
     let mut pairs = PairList::new(alloc);
     pairs.push((Text::from_str(alloc, name)?, value(alloc, word)?))?;
     Ok(Arguments::Named(pairs))
 }
 
+/// An object by its lifetime and its number, or a handle of the peer.
+fn passed(name: &str, n: u64) -> Arg {
+    match name {
+        "call" => Arg::Object(n, Lifetime::Call),
+        "explicit" => Arg::Object(n, Lifetime::Explicit),
+        _ => Arg::Handed(n),
+    }
+}
+
 /// Progress, or a value.
-fn argument(alloc: Global, word: &str) -> Result<Arg, Fail>
-    ensures { IfOk result (λ arg. is_built_arg arg ≡ true) }
-{
+fn plain(alloc: Global, word: &str) -> Result<Arg, Fail> {
     match word {
         "progress" => Ok(Arg::Progress),
         word => Ok(Arg::Plain(value(alloc, word)?)),
     }
 }
 
-/// Two arguments.
-fn listed(alloc: Global, first: &str, second: &str) -> Result<Arguments, Fail>
-    ensures { IfOk result (λ args. are_built_args args ≡ true) }
-{
+/// Progress, `call:N`, `explicit:N` or `handed:N`, or a value.
+fn argument(alloc: Global, word: &str) -> Result<Arg, Fail> {
+    match word.split_once(':') {
+        Some((name, n)) => Ok(passed(name, count(n))),
+        None => plain(alloc, word),
+    }
+}
+
+/// Arguments in order.
+fn listed(alloc: Global, words: &str) -> Result<Arguments, Fail> {
     let mut args = ArgList::new(alloc);
-    args.push(argument(alloc, first)?)?;
-    args.push(argument(alloc, second)?)?;
+    for word in words.split(' ') {
+        args.push(argument(alloc, word)?)?;
+    }
     Ok(Arguments::List(args))
 }
 
-/// The arguments that words stand for: none, `NAME=VALUE`, or two that are values or `progress`.
-fn arguments(alloc: Global, words: &str) -> Result<Arguments, Fail>
-    ensures { IfOk result (λ args. are_built_args args ≡ true) }
-{
+/// The arguments that words stand for: none, `NAME=VALUE`, or those in order.
+fn arguments(alloc: Global, words: &str) -> Result<Arguments, Fail> {
     if words.is_empty() {
         return Ok(Arguments::Absent);
     }
     match words.split_once('=') {
         Some((name, word)) => named(alloc, name, word),
-        None => {
-            let (first, second) = words.split_once(' ').unwrap_or((words, ""));
-            listed(alloc, first, second)
-        }
+        None => listed(alloc, words),
     }
 }
 
 /// The method that the first word names, and the arguments that the others stand for.
-pub fn call_of(alloc: Global, words: &str) -> Result<(Text, Arguments), Fail>
-    ensures { IfOk result (λ call. are_built_args call.1 ≡ true) }
-{
+pub fn call_of(alloc: Global, words: &str) -> Result<(Text, Arguments), Fail> {
     let (method, words) = words.split_once(' ').unwrap_or((words, ""));
     let args = arguments(alloc, words)?;
     Ok((Text::from_str(alloc, method)?, args))

@@ -1,10 +1,8 @@
 use Rattle.std.proofs.lemmas.Result.{err_from_is_err_and}
-use Rattle.message_body.specs.Written.{encoder}
 use Rattle.rpc_items.specs.declared.calls.Answer.{Answer}
 use Rattle.rpc_items.specs.declared.calls.Answer.TheVariants as answer
-use Rattle.rpc_end.specs.Calls.{responding_refusal, unwritten}
+use Rattle.rpc_end.specs.Calls.{responding_refusal, unwritten, with_response}
 use Rattle.rpc_end.proofs.Answering.{unprepared}
-use Rattle.rpc_end.proofs.Responding.{with_reply}
 use Rattle.rpc_end.proofs.end.RpcEnd.answer_in_pages.Goals as goal
 
 pub returns-in_err-text-clause-responds : goal.returns-in_err-text-clause-responds
@@ -14,4 +12,4 @@ returns-in_err-text-clause-responds c =
     let given : Answer = answer.Sequence c.args.values c.args.page c.args.first in
     let p = err_from_is_err_and c.from_residual.result c.from_residual.ensures.1 in
     rw (p.1, p.2)
-    (unprepared old (with_reply old id given) (responding_refusal id given old.table old.producer) (unwritten (encoder old.terms.encoding) id given old.producer) tt c.in_err-text.field-0.0 c.pages_text.result c.in_err-text.was c.pages_text.ensures.answer)
+    (unprepared old (with_response id given old) (responding_refusal id given old) (unwritten id given old) tt c.in_err-text.field-0.0 c.pages_text.result c.in_err-text.was c.pages_text.ensures.answer)

@@ -1,7 +1,8 @@
-use Rattle.std.proofs.Common.{◌+◌, length}
 use Rattle.std.proofs.lemmas.Result.{err_from_is_err_and}
 use Rattle.message_body.specs.Written.{encoder}
 use Rattle.rpc_items.specs.Bodies.{first_refusal}
+use Rattle.rpc_end.specs.Calls.{next_number}
+use Rattle.rpc_end.specs.Ends.{with_said}
 use Rattle.rpc_end.proofs.Answering.{unprepared}
 use Rattle.rpc_end.proofs.Responding.{asked_early, next_asked, with_asked}
 use Rattle.rpc_end.proofs.end.RpcEnd.ask_page.Goals as goal
@@ -12,4 +13,4 @@ returns-in_err-text-clause-makes c =
     let n = c.args.n in
     let p = err_from_is_err_and c.from_residual.result c.from_residual.ensures.1 in
     rw (p.1, p.2)
-    (unprepared old (with_asked old n) (asked_early old n) (first_refusal (encoder old.terms.encoding) (next_asked old n)) (length old.table.requests + 1) c.in_err-text.field-0.0 c.turn_text.result c.in_err-text.was c.turn_text.ensures.answer)
+    (unprepared old (with_said (next_asked old n) (with_asked old n)) (asked_early old n) (first_refusal (encoder old.terms.encoding) (next_asked old n)) (next_number old) c.in_err-text.field-0.0 c.turn_text.result c.in_err-text.was c.turn_text.ensures.answer)

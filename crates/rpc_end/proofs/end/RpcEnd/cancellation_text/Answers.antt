@@ -1,17 +1,13 @@
 -- A cancellation is a message of the code: it has no id.
-use Rattle.std.specs.Prelude.{OnOk, codes}
-use Rattle.std.proofs.Common.{[], ◌∷◌, subst}
-use Rattle.message_body.specs.AsRead.{IsMessage}
-use Rattle.rpc_items.specs.declared.messages.Message.{Message}
+use Rattle.std.specs.Prelude.{codes}
+use Rattle.std.proofs.Common.{[], ◌∷◌}
 use Rattle.rpc_items.specs.declared.messages.Message.TheVariants.{Notification}
 use Rattle.rpc_items.specs.declared.messages.Params.TheVariants as params
 use Rattle.rpc_items.specs.Ids.{count_value}
 use Rattle.rpc_items.specs.Methods.{cancel_request}
-use Rattle.rpc_items.specs.Sayable.{HasNamedId}
-use Rattle.rpc_end.proofs.Said.{one_message}
+use Rattle.rpc_end.proofs.Texts.{said_so}
 use Rattle.rpc_end.proofs.end.RpcEnd.cancellation_text.Goals as goal
 
 pub returns-clause-said : goal.returns-clause-said
 returns-clause-said c =
-    one_message c.text_of.result (Notification cancel_request (params.Named ((codes "id", count_value c.args.n) ∷ []))) tt
-    (subst (λ (m : Message). OnOk c.text_of.result (HasNamedId m → IsMessage m)) c.in-Ok.ensures c.text_of.ensures.message)
+    said_so c.text_of.result c.in-Ok.message (Notification cancel_request (params.Named ((codes "id", count_value c.args.n) ∷ []))) c.in-Ok.ensures tt c.text_of.ensures.message

@@ -8,7 +8,7 @@ use Rattle.rpc_items.specs.Reports.{reports}
 use Rattle.rpc_end.specs.Ends.{value_in, with_table}
 use Rattle.rpc_end.specs.Replies.{Answers}
 use Rattle.rpc_end.specs.Stands.{RpcStands, RpcValue}
-use Rattle.rpc_end.proofs.Answering.{take_fails, takes}
+use Rattle.rpc_end.proofs.Past.{take_fails, takes}
 use Rattle.rpc_end.proofs.end.RpcEnd.take_report.Goals as goal
 use Rattle.rpc_end.proofs.end.RpcEnd.take_report.Goals.{in-Ok, in-Err}
 
@@ -17,7 +17,7 @@ Answered old new n items at rest result = Answers {A = Option Tree} old new item
 
 pub returns-clause-answers : goal.returns-clause-answers
 returns-clause-answers c = λ items at rest s.
-    let end : RpcValue = value_in c.self.inside.terms c.self.inside.table c.self.inside.producer c.self.inside.consumer c.self.inside.output.items c.self.inside.reader c.self.inside.state in
+    let end : RpcValue = value_in c.self.inside.terms c.self.inside.table c.self.inside.producer c.self.inside.consumer c.self.inside.owner c.self.inside.holder c.self.inside.output.items c.self.inside.reader c.self.inside.state in
     let new : RpcValue = with_table c.take_report.new.self end in
     let stands : RpcStands end items at rest = subst (λ (e : RpcValue). RpcStands e items at rest) (sym c.self.view_is) s in
     elim c.match-take_report.branch [

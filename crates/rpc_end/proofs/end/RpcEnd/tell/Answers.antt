@@ -1,19 +1,17 @@
-use Rattle.std.proofs.Common.{[]}
+use Rattle.std.proofs.Common.{None}
 use Rattle.std.proofs.lemmas.Result.{err_from_is_err_and}
 use Rattle.message_body.specs.Written.{encoder}
 use Rattle.rpc_items.specs.Bodies.{first_refusal}
-use Rattle.rpc_items.specs.Items.{Did, Tell}
-use Rattle.rpc_items.specs.Saying.{said}
-use Rattle.rpc_end.specs.Calls.{told_refusal}
-use Rattle.rpc_end.specs.Ends.{with_said, with_table}
+use Rattle.rpc_end.specs.Calls.{next_notification, told_refusal, with_objects}
+use Rattle.rpc_end.specs.Ends.{with_said}
 use Rattle.rpc_end.proofs.Answering.{unprepared}
 use Rattle.rpc_end.proofs.end.RpcEnd.tell.Goals as goal
 
 pub returns-in_err-text-clause-calls : goal.returns-in_err-text-clause-calls
 returns-in_err-text-clause-calls c =
     let old = c.args.self.now in
-    let messages = said (Did (Tell c.args.method.now c.args.args)) [] in
+    let messages = next_notification c.args.method.now c.args.args old in
     let p = err_from_is_err_and c.from_residual.result c.from_residual.ensures.1 in
     rw (p.1, p.2)
-    (unprepared old (with_said messages (with_table old.table old)) (told_refusal c.args.method.now c.args.args) (first_refusal (encoder old.terms.encoding) messages)
+    (unprepared old (with_said messages (with_objects None c.args.args old)) (told_refusal c.args.method.now c.args.args old) (first_refusal (encoder old.terms.encoding) messages)
     tt c.in_err-text.field-0.0 c.notification_text.result c.in_err-text.was c.notification_text.ensures.answer)
