@@ -1,13 +1,9 @@
 //! Worked values of two joined ends.
 
-ghost use Rattle.endpoint_run.specs.Answers.{are_built_steps, is_built_step};
-ghost use Rattle.endpoint_items.specs.Built.{is_built_call};
-ghost use Rattle.std.specs.Prelude.{◌≡◌, IfOk, MatchOption, true};
-
 use duo_world::Duo;
 use endpoint_run::{Call, DuoAnswer, EventList, Reply, Side, Step, StepList};
 use mux_items::{ChannelKey, Phase, Tally};
-use rpc_end::{Answer, Arguments, Encoding, Expect, Framing, Terms};
+use rpc_end::{Answer, Arguments, Encoding, Expect, Framing, HandleKey, Terms};
 use std::alloc::Global;
 use std::test::Fail;
 use wire_base::{Blob, Datum, Id, Node, OutOfMemory, Text, Version, Whole};
@@ -30,6 +26,12 @@ enum Move {
     Request(u64),
     /// The answer 5 to the first request.
     Respond(u64),
+    /// The object 7 as the answer to the first request.
+    Hand(u64),
+    /// A request of `add` without arguments to the object of the first handle of B.
+    Invoke(u64),
+    /// The release of that handle.
+    Release(u64),
     /// What became of the first request.
     Outcome(u64),
     Deliver,
@@ -282,8 +284,8 @@ fn two() -> [Row; 7] {
     ]
 }
 
-/// A request on a channel with windows of 100, and its answer. What is read is acknowledged.
-fn calls() -> [Row; 12] {
+/// A channel with windows of 100, and a connection at both sides.
+fn attached() -> [Row; 6] {
     [
         (
             Side::A,
@@ -311,6 +313,12 @@ fn calls() -> [Row; 12] {
         ),
         (Side::A, Move::Attach(1), "Done []", b""),
         (Side::B, Move::Attach(1), "Done []", b""),
+    ]
+}
+
+/// A request on it, and its answer. What is read is acknowledged.
+fn calls() -> [Row; 6] {
+    [
         (
             Side::A,
             Move::Request(1),
@@ -345,6 +353,81 @@ fn calls() -> [Row; 12] {
     ]
 }
 
+/// The answer to a request is an object, which A calls. Then both sides release its handle, before they hear of each other:
+/// what comes ends nothing more, and the object isn't called again.
+fn objects() -> [Row; 13] {
+    [
+        (
+            Side::A,
+            Move::Request(1),
+            "Number(1) []",
+            b"\x94\x02\x01\x01\xc4\x20\0\0\0\x1c\x83\xa7jsonrpc\xa32.0\xa2id\x01\xa6method\xa3add",
+        ),
+        (
+            Side::B,
+            Move::Deliver,
+            "38 [Happened(Mux(Content(ChannelKey { id: 1, own: false }, 32))), Happened(Rpc(ChannelKey { id: 1, own: false }, Asked(Number(1), Root, Text { inner: \"add\" }, Absent)))]",
+            b"\x94\x05\x01\xff\xc4\x02\x91\x20",
+        ),
+        (
+            Side::B,
+            Move::Hand(1),
+            "Done []",
+            b"\x94\x02\x01\xff\xc4\x4c\0\0\0\x48\x83\xa7jsonrpc\xa32.0\xa2id\x01\xa6result\x83\xb3__jsonrpc_marshaled\x01\xa6handle\x01\xa8lifetime\xa8explicit",
+        ),
+        (
+            Side::A,
+            Move::Deliver,
+            "90 [Happened(Mux(Credit(ChannelKey { id: 1, own: true }, 32))), Happened(Mux(Content(ChannelKey { id: 1, own: true }, 76))), Happened(Rpc(ChannelKey { id: 1, own: true }, Answered(1)))]",
+            b"\x94\x05\x01\x01\xc4\x02\x91\x4c",
+        ),
+        (
+            Side::A,
+            Move::Invoke(1),
+            "Number(2) []",
+            b"\x94\x02\x01\x01\xc4\x30\0\0\0\x2c\x83\xa7jsonrpc\xa32.0\xa2id\x02\xa6method\xb3$/invokeProxy/1/add",
+        ),
+        (
+            Side::B,
+            Move::Deliver,
+            "62 [Happened(Mux(Credit(ChannelKey { id: 1, own: false }, 76))), Happened(Mux(Content(ChannelKey { id: 1, own: false }, 48))), Happened(Rpc(ChannelKey { id: 1, own: false }, Asked(Number(2), Object(7, 1), Text { inner: \"add\" }, Absent)))]",
+            b"\x94\x05\x01\xff\xc4\x02\x91\x30",
+        ),
+        (
+            Side::A,
+            Move::Deliver,
+            "8 [Happened(Mux(Credit(ChannelKey { id: 1, own: true }, 48)))]",
+            b"",
+        ),
+        (
+            Side::A,
+            Move::Release(1),
+            "Done []",
+            b"\x94\x02\x01\x01\xc4\x50\0\0\0\x4c\x83\xa7jsonrpc\xa32.0\xa6method\xb8$/releaseMarshaledObject\xa6params\x82\xa6handle\x01\xadownedBySender\xc2",
+        ),
+        (
+            Side::B,
+            Move::Release(1),
+            "Done []",
+            b"\x94\x02\x01\xff\xc4\x50\0\0\0\x4c\x83\xa7jsonrpc\xa32.0\xa6method\xb8$/releaseMarshaledObject\xa6params\x82\xa6handle\x01\xadownedBySender\xc3",
+        ),
+        (
+            Side::A,
+            Move::Deliver,
+            "86 [Happened(Mux(Content(ChannelKey { id: 1, own: true }, 80))), Happened(Rpc(ChannelKey { id: 1, own: true }, Handled(Text { inner: \"$/releaseMarshaledObject\" })))]",
+            b"\x94\x05\x01\x01\xc4\x02\x91\x50",
+        ),
+        (
+            Side::B,
+            Move::Deliver,
+            "94 [Happened(Mux(Content(ChannelKey { id: 1, own: false }, 80))), Happened(Rpc(ChannelKey { id: 1, own: false }, Handled(Text { inner: \"$/releaseMarshaledObject\" }))), Happened(Mux(Credit(ChannelKey { id: 1, own: false }, 80)))]",
+            b"\x94\x05\x01\xff\xc4\x02\x91\x50",
+        ),
+        (Side::A, Move::Invoke(1), "Refused(Released) []", b""),
+        (Side::B, Move::Release(1), "Refused(Released) []", b""),
+    ]
+}
+
 fn key(side: Side, id: u64) -> ChannelKey {
     ChannelKey {
         id,
@@ -372,9 +455,7 @@ fn mux_call_of(
     Ok(Some(call))
 }
 
-fn attach(key: ChannelKey) -> Call
-    ensures { is_built_call result ≡ true }
-{
+fn attach(key: ChannelKey) -> Call {
     let terms = Terms {
         framing: Framing::Length,
         encoding: Encoding::Pack,
@@ -382,37 +463,45 @@ fn attach(key: ChannelKey) -> Call
     Call::Attach(key, terms)
 }
 
-fn request(alloc: Global, key: ChannelKey) -> Result<Call, OutOfMemory>
-    ensures { IfOk result (λ c. is_built_call c ≡ true) }
-{
+fn request(alloc: Global, key: ChannelKey) -> Result<Call, OutOfMemory> {
     let method = Text::from_str(alloc, "add")?;
     Ok(Call::Request(key, method, Arguments::Absent, Expect::Plain))
 }
 
-fn respond(key: ChannelKey) -> Call
-    ensures { is_built_call result ≡ true }
-{
+fn respond(key: ChannelKey) -> Call {
     let value = Datum {
         node: Node::Whole(Whole::from_i64(5)),
     };
     Call::Respond(key, Id::Number(1), Answer::Value(value))
 }
 
-fn call_of(alloc: Global, side: Side, makes: Move) -> Result<Option<Call>, OutOfMemory>
-    ensures { IfOk result (λ o. MatchOption o (Unit {0}) (λ c. is_built_call c ≡ true)) }
-{
+/// The first handle that B made.
+fn handle(side: Side) -> HandleKey {
+    HandleKey {
+        number: 1,
+        own: side == Side::B,
+    }
+}
+
+fn invoke(alloc: Global, key: ChannelKey) -> Result<Call, OutOfMemory> {
+    let method = Text::from_str(alloc, "add")?;
+    Ok(Call::Invoke(key, 1, method, Arguments::Absent, Expect::Plain))
+}
+
+fn call_of(alloc: Global, side: Side, makes: Move) -> Result<Option<Call>, OutOfMemory> {
     match makes {
         Move::Attach(id) => Ok(Some(attach(key(side, id)))),
         Move::Request(id) => Ok(Some(request(alloc, key(side, id))?)),
         Move::Respond(id) => Ok(Some(respond(key(side, id)))),
+        Move::Hand(id) => Ok(Some(Call::Respond(key(side, id), Id::Number(1), Answer::Object(7)))),
+        Move::Invoke(id) => Ok(Some(invoke(alloc, key(side, id))?)),
+        Move::Release(id) => Ok(Some(Call::Release(key(side, id), handle(side)))),
         Move::Outcome(id) => Ok(Some(Call::Outcome(key(side, id), 1))),
         makes => Ok(mux_call_of(alloc, side, makes)?.map(Call::Mux)),
     }
 }
 
-fn step_of(alloc: Global, side: Side, makes: Move) -> Result<Step, OutOfMemory>
-    ensures { IfOk result (λ s. is_built_step s ≡ true) }
-{
+fn step_of(alloc: Global, side: Side, makes: Move) -> Result<Step, OutOfMemory> {
     match (makes, call_of(alloc, side, makes)?) {
         (_, Some(call)) => Ok(Step::Call(side, call)),
         (Move::End, None) => Ok(Step::End(side)),
@@ -457,9 +546,7 @@ fn world(alloc: Global, version: Version, nonces: [[u8; 16]; 2]) -> Result<Duo, 
     Duo::start(alloc, version, nonces)
 }
 
-fn make(duo: &mut Duo, step: Step) -> DuoAnswer
-    requires { is_built_step step ≡ true }
-{
+fn make(duo: &mut Duo, step: Step) -> DuoAnswer {
     duo.step(step)
 }
 
@@ -514,15 +601,18 @@ fn rows_on_one_channel(rt: HostRuntime) -> Result<(), Fail> {
     Ok(())
 }
 
-/// The first wrong one of the rows of a request.
-fn wrong_call(alloc: Global) -> Result<Option<usize>, Fail> {
+/// The first wrong one of rows that begin with one channel and its connections.
+fn wrong_call(alloc: Global, rows: &[Row]) -> Result<Option<usize>, Fail> {
     let mut duo = world(alloc, Version::Three, [[0; 16]; 2])?;
-    first_wrong(alloc, &mut duo, &calls())
+    first_wrong(alloc, &mut duo, &attached())?;
+    first_wrong(alloc, &mut duo, rows)
 }
 
 #[test]
-fn rows_of_a_request(rt: HostRuntime) -> Result<(), Fail> {
-    assert_eq!(rt; wrong_call(rt.alloc())?, None);
+fn rows_of_connections(rt: HostRuntime) -> Result<(), Fail> {
+    let alloc = rt.alloc();
+    assert_eq!(rt; wrong_call(alloc, &calls())?, None);
+    assert_eq!(rt; wrong_call(alloc, &objects())?, None);
     Ok(())
 }
 
@@ -561,9 +651,7 @@ fn two_frames(alloc: Global) -> Result<Vec<u8>, OutOfMemory> {
     Ok(bytes)
 }
 
-fn write_many(alloc: Global) -> Result<Call, OutOfMemory>
-    ensures { IfOk result (λ c. is_built_call c ≡ true) }
-{
+fn write_many(alloc: Global) -> Result<Call, OutOfMemory> {
     let mut bytes = Vec::new(alloc);
     fill(&mut bytes, 30_000)?;
     let bytes = Blob::from_bytes(alloc, &bytes)?;
@@ -647,17 +735,13 @@ fn bytes_one_by_one_leave_the_same(rt: HostRuntime) -> Result<(), Fail> {
     Ok(())
 }
 
-fn one_step(alloc: Global) -> Result<StepList, OutOfMemory>
-    ensures { IfOk result (λ steps. are_built_steps steps ≡ true) }
-{
+fn one_step(alloc: Global) -> Result<StepList, OutOfMemory> {
     let mut steps = StepList::new(alloc);
     steps.push(step_of(alloc, Side::A, Move::Offer(8))?)?;
     Ok(steps)
 }
 
-fn run(alloc: Global, steps: StepList) -> Result<Duo, OutOfMemory>
-    requires { are_built_steps steps ≡ true }
-{
+fn run(alloc: Global, steps: StepList) -> Result<Duo, OutOfMemory> {
     Duo::run(alloc, Version::Three, [[0; 16]; 2], steps)
 }
 

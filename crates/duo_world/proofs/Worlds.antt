@@ -33,6 +33,7 @@ use Rattle.endpoint_run.proofs.Emitted.{frames_grow}
 use Rattle.endpoint_run.proofs.Exchanging.{run_exchanges}
 use Rattle.endpoint_run.proofs.Growing.{side_newer}
 use Rattle.endpoint_run.proofs.Midway.{midway_a, midway_b}
+use Rattle.endpoint_run.proofs.Resting.{run_rests}
 use Rattle.endpoint_run.proofs.Safety.{run_safe}
 use Rattle.endpoint_run.proofs.Settled.{run_settled}
 use Rattle.endpoint_run.proofs.Telling.{run_goes_on}
@@ -160,7 +161,12 @@ run_holds terms steps a b h =
     let v = terms.version in
     let says_a : SaysMessages v w.a.items = side_says (terms_at_a terms) a w.a (mux_side v w.b) h.at_own in
     let says_b : SaysMessages v w.b.items = side_says (terms_at_b terms) b w.b (mux_side v w.a) h.at_peer in
-    record { safe = run_safe terms (made_steps steps); exchange = run_exchanges terms (made_steps steps) (record { a = says_a; b = says_b }); settled = run_settled terms (made_steps steps) }
+    record {
+      safe = run_safe terms (made_steps steps);
+      exchange = run_exchanges terms (made_steps steps) (record { a = says_a; b = says_b });
+      handles = run_rests terms (made_steps steps);
+      settled = run_settled terms (made_steps steps);
+    }
 
 -- one more step
 

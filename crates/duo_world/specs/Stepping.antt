@@ -17,6 +17,7 @@ use Rattle.endpoint_run.specs.declared.steps.Step.{Step}
 use Rattle.endpoint_run.specs.declared.steps.Step.TheVariants as step
 use Rattle.endpoint_run.specs.Answers.{answer_at, answer, made_step, made_steps, side_of, side_by, world_by, run}
 use Rattle.endpoint_run.specs.Exchange.{IsExchangeRun}
+use Rattle.endpoint_run.specs.Handles.{HandlesRestRun}
 use Rattle.endpoint_run.specs.Midway.{IsMidway}
 use Rattle.endpoint_run.specs.Run.{EndSide, EndWorld, mux_side}
 use Rattle.endpoint_run.specs.Safe.{IsSafeRun}
@@ -62,11 +63,12 @@ abbrev pub EmitsOn : Side → Terms → (w w' : EndWorld) → (a a' b b' : Endpo
 EmitsOn A terms w w' a a' b b' = Emits (terms_at_a terms) w.a w'.a a a' b b'
 EmitsOn B terms w w' a a' b b' = Emits (terms_at_b terms) w.b w'.b b b' a a'
 
--- what holds of the run of the steps that a Duo made: at every moment it is safe, keeps its credit and connections exchange
--- messages in order, and at its end nothing whole is left to either end
+-- what holds of the run of the steps that a Duo made: at every moment it is safe, keeps its credit, connections exchange
+-- messages in order and handles rest after their end, and at its end nothing whole is left to either end
 pub record RunHolds (terms : Terms) (steps : List Step) : Type 0 where
   pub safe : IsSafeRun terms (made_steps steps)
   pub exchange : IsExchangeRun terms (made_steps steps)
+  pub handles : HandlesRestRun terms (made_steps steps)
   pub settled : IsSettled terms (run terms steps)
 
 -- a step was made: it answers as the run says, is stored, and the ends stand for the run with it

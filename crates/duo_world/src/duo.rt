@@ -2,7 +2,7 @@
 
 ghost use Rattle.duo_world.specs.Holding.{DuoHolds, StandsForRun, end_of, flight_to, output_to};
 ghost use Rattle.duo_world.specs.Stepping.{IsStepped, RunHolds, Steps};
-ghost use Rattle.endpoint_run.specs.Answers.{are_built_steps, is_built_step, run};
+ghost use Rattle.endpoint_run.specs.Answers.{run};
 ghost use Rattle.mux_run.specs.Run.{terms_of};
 ghost use Rattle.std.specs.Prelude.{◌≡◌, [], IfOk, OnErr, false, true};
 
@@ -31,11 +31,12 @@ impl Model for Duo {
     ghost use Rattle.duo_world.specs.Holding.{DuoHolds, DuoState};
     ghost use Rattle.endpoint_run.specs.contracts.steps.Step as step;
     ghost use Rattle.enumerables.specs.Codes.{coded_followed, coded_sequences};
+    ghost use Rattle.marshalled_handles.specs.Codes.{coded_held, coded_made};
     ghost use Rattle.std.specs.Coded.{codes};
 
     ghost Value = { DuoState };
 
-    ghost coded = { Prim.hlevel (codes, coded_table, coded_sequences, coded_followed, step.the_row.coded) };
+    ghost coded = { Prim.hlevel (codes, coded_table, coded_sequences, coded_followed, coded_made, coded_held, step.the_row.coded) };
 
     ghost view = { λ d. record { terms = record { version = d.version; nonce_a = d.nonce_a; nonce_b = d.nonce_b }; a = d.a; b = d.b; steps = d.steps; failed = d.failed } };
 
@@ -65,8 +66,7 @@ impl Duo {
     }
 
     fn try_step(&mut self, step: Step) -> Result<DuoAnswer, OutOfMemory>
-        requires works { self.old.failed ≡ false }
-        requires built { is_built_step step ≡ true }
+        requires { self.old.failed ≡ false }
         ensures ok { IfOk result (IsStepped self.old self.new step) }
         ensures err { OnErr result (self.new.failed ≡ true) }
     {
@@ -80,7 +80,6 @@ impl Duo {
     /// Makes a step: a call, a delivery of at most so many of the bytes in flight to a side, or the end of the stream
     /// into a side. After a call or a delivery that side applies what is whole.
     pub fn step(&mut self, step: Step) -> DuoAnswer
-        requires { is_built_step step ≡ true }
         ensures { self.old.failed ≡ false → Steps self.old self.new step result }
     {
         if self.failed {
@@ -99,7 +98,6 @@ impl Duo {
         nonces: [[u8; 16]; 2],
         steps: StepList,
     ) -> Result<Duo, OutOfMemory>
-        requires { are_built_steps steps ≡ true }
         ensures stored { IfOk result (λ d. (d.steps ≡ steps) × (d.failed ≡ false) × (d.terms ≡ terms_of version nonces)) }
         ensures stands { IfOk result StandsForRun }
         ensures holds { IfOk result (λ d. RunHolds d.terms d.steps) }

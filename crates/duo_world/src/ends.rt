@@ -4,16 +4,15 @@ ghost use Rattle.duo_world.specs.Settling.{IsMidStep, IsSettled, is_running_stat
 ghost use Rattle.duo_world.specs.Holding.{StandsForSide};
 ghost use Rattle.duo_world.specs.Ranges.{IsCallInRange, IsMuxCallInRange};
 ghost use Rattle.duo_world.specs.Stepping.{Calls, IsBetweenSteps, StepsAt, StepsIn};
-ghost use Rattle.endpoint_items.specs.Built.{is_built_call};
 ghost use Rattle.endpoint.specs.Value.{EndpointValue};
 ghost use Rattle.endpoint_items.specs.Asked.{made_by};
 ghost use Rattle.endpoint_items.specs.Items.{EndItem};
-ghost use Rattle.endpoint_run.specs.Answers.{is_built_step, side_of};
+ghost use Rattle.endpoint_run.specs.Answers.{side_of};
 ghost use Rattle.endpoint_run.specs.Midway.{all_applied};
 ghost use Rattle.endpoint_run.specs.Run.{EndSide, EndWorld};
 ghost use Rattle.mux_run.specs.Run.{RunSide, SideTerms, Terms, terms_at_a};
 ghost use Rattle.mux_run.specs.declared.steps.Side.{Side};
-ghost use Rattle.std.specs.Prelude.{◌≡◌, ℕ, List, OnOk, IfOk, is_none, true};
+ghost use Rattle.std.specs.Prelude.{◌≡◌, ℕ, List, OnOk, IfOk, is_none};
 
 use endpoint::{EndStep, Endpoint};
 use endpoint_run::{Call, DuoAnswer, EventList, Reply, Side, SideEvent, Step};
@@ -88,6 +87,8 @@ fn note_ranges(call: &Call)
         | Call::TakeReport(_, _)
         | Call::Next(_, _)
         | Call::Abort(_, _)
+        | Call::Invoke(_, _, _, _, _)
+        | Call::Release(_, _)
         | Call::Outcome(_, _)
         | Call::Forget(_, _) => {}
     }
@@ -95,7 +96,6 @@ fn note_ranges(call: &Call)
 
 /// Makes a call at an end.
 fn make_call(alloc: Global, own: &mut Endpoint, call: &Call) -> Result<Reply, OutOfMemory>
-    requires { is_built_call call.now ≡ true }
     ensures { (w : SideTerms) (x : EndSide) (y : RunSide) → StandsForSide w own.old x y → IfOk result (Calls w call.now own.new x y) }
 {
     note_ranges(call);
@@ -114,7 +114,6 @@ fn is_question(call: &Call) -> bool
 
 /// Makes a call at an end, and lets it apply what is whole.
 fn call_at(alloc: Global, own: &mut Endpoint, call: &Call) -> Result<DuoAnswer, OutOfMemory>
-    requires { is_built_call call.now ≡ true }
     ensures { (w : SideTerms) (side : Side) (peer : EndpointValue) (x y : EndSide) → IsBetweenSteps w own.old peer x y →
         IfOk result (StepsAt w (Step.Call side call.now) own.new peer x y) }
 {
@@ -163,7 +162,6 @@ fn step_at(
     peer: &mut Endpoint,
     step: &Step,
 ) -> Result<DuoAnswer, OutOfMemory>
-    requires { is_built_step step.now ≡ true }
     ensures { (w : SideTerms) (x y : EndSide) → IsBetweenSteps w own.old peer.old x y → IfOk result (StepsAt w step.now own.new peer.new x y) }
 {
     match step {
@@ -191,7 +189,6 @@ pub fn make_step(
     b: &mut Endpoint,
     step: &Step,
 ) -> Result<DuoAnswer, OutOfMemory>
-    requires { is_built_step step.now ≡ true }
     ensures { (terms : Terms) (w : EndWorld) → IsBetweenSteps (terms_at_a terms) a.old b.old w.a w.b → IfOk result (StepsIn terms step.now a.new b.new w) }
 {
     match side_of(step) {

@@ -6,6 +6,9 @@ use Rattle.call_table.specs.Table.{over}
 use Rattle.call_table.proofs.After.{lost_after}
 use Rattle.enumerables.proofs.After.{ended_after, over_after}
 use Rattle.enumerables.specs.Producer.{all_ended}
+use Rattle.marshalled_handles.specs.Holder as holders
+use Rattle.marshalled_handles.specs.Owner as owners
+use Rattle.marshalled_handles.proofs.After.{own_ended_after, peer_ended_after}
 use Rattle.rpc_items.specs.declared.calls.Outcome.TheVariants.{Lost}
 use Rattle.rpc_items.specs.Items as rpc
 use Rattle.rpc_items.specs.Saying.{all_said}
@@ -52,11 +55,12 @@ module _ (cause : Cause) (terms : Terms) (items : List rpc.RpcItem) (at : ℕ) (
           table = lost_after end.table (over Lost end.table) items cause refl c.stands.table;
           producer = ended_after cause end.producer (all_ended end.producer) items refl c.stands.producer;
           consumer = over_after cause end.consumer [] items refl c.stands.consumer;
+          owner = own_ended_after cause end.owner (owners.all_ended end.owner) items refl c.stands.owner;
+          holder = peer_ended_after cause end.holder (holders.all_ended end.holder) items refl c.stands.holder;
           at_is = c.stands.at_is;
           rest_is = c.stands.rest_is;
           state = refl;
           allowed = (running, c.stands.allowed);
-          built = c.stands.built;
           said = subst AreMessages (sym (append-nil (all_said items))) c.stands.said;
           named = c.stands.named;
         };

@@ -6,7 +6,6 @@ use Rattle.wire_base.specs.declared.fault.CallFault.{CallFault}
 use Rattle.wire_base.specs.declared.fault.CallFault.TheVariants as fault
 use Rattle.wire_base.specs.declared.refusal.Refusal.{Refusal}
 use Rattle.wire_base.specs.declared.refusal.Refusal.TheVariants as refusal
-use Rattle.wire_base.specs.declared.state.EndState.{EndState}
 use Rattle.wire_base.specs.declared.state.EndState.TheVariants as state
 use Rattle.mux_items.specs.declared.call.Call.{Call as MuxCall}
 use Rattle.mux_items.specs.Bodies.{same_key}
@@ -29,8 +28,7 @@ use Rattle.endpoint.specs.Changes.{finished}
 use Rattle.endpoint.specs.Replies.{Answers, AnswersBy, early_refusal}
 use Rattle.endpoint.specs.Stands.{Stands}
 use Rattle.endpoint.specs.Value.{EndpointValue}
-use Rattle.endpoint.proofs.RpcCalling.{none_attached}
-use Rattle.endpoint.proofs.Standing.{not_stopped}
+use Rattle.endpoint.proofs.RpcCalling.{not_attached}
 
 -- a call's result is that of the call that it stands for, whose answer is told so
 abbrev pub Gives : {A : Type 0} → (A → Reply) → Result A CallFault → Result Reply CallFault → Type 0
@@ -109,21 +107,11 @@ tells old new items at rest key n look result was is = by result
 
 -- a channel without a connection has no requests to tell of
 
-untold : (old : EndpointValue) (items : List EndItem) (at : ℕ) (rest : List ℕ) (key : ChannelKey) (n : ℕ) (error : CallFault) → error ≡ fault.Refused refusal.NotAttached → rpc_of old.mux.version key items ≡ None
-    → Applies old old items at rest (call.Outcome key n) (as_reply (Err error))
-untold old items at rest key n error is none = subst (λ (e : CallFault). Applies old old items at rest (call.Outcome key n) (as_reply (Err e))) (sym is) (rw none refl, refl)
-
-unattached_by : (old : EndpointValue) (items : List EndItem) (at : ℕ) (rest : List ℕ) (key : ChannelKey) (n : ℕ) (error : CallFault) (s : EndState) (found : Option ℕ) → Stands old items at rest → old.state ≡ s
-    → position (λ (attached : Attached). same_key key attached.key) old.connections ≡ found → Err error ≡ attached_place s found → Applies old old items at rest (call.Outcome key n) (as_reply (Err error))
-unattached_by old items at rest key n error state.Stopped found s is none e = absurd (not_stopped old items at rest s is)
-unattached_by old items at rest key n error state.Running (Some i) s is none e = absurd (cc e)
-unattached_by old items at rest key n error (state.Ended why) (Some i) s is none e = absurd (cc e)
-unattached_by old items at rest key n error state.Running None s is none e = untold old items at rest key n error (cc e) (none_attached old items at rest key s none)
-unattached_by old items at rest key n error (state.Ended why) None s is none e = untold old items at rest key n error (cc e) (none_attached old items at rest key s none)
-
 pub unattached_tells : (old : EndpointValue) (items : List EndItem) (at : ℕ) (rest : List ℕ) (key : ChannelKey) (n : ℕ) (error : CallFault) → Stands old items at rest
     → Err error ≡ attached_place old.state (position (λ (attached : Attached). same_key key attached.key) old.connections) → Applies old old items at rest (call.Outcome key n) (as_reply (Err error))
-unattached_tells old items at rest key n error s e = unattached_by old items at rest key n error old.state (position (λ (attached : Attached). same_key key attached.key) old.connections) s refl refl e
+unattached_tells old items at rest key n error s e =
+    let p = not_attached old items at rest key error s e in
+    subst (λ (e : CallFault). Applies old old items at rest (call.Outcome key n) (as_reply (Err e))) (sym p.0) (rw p.1 refl, refl)
 
 -- memory runs out after a call of the multiplexing end was made
 pub starves : {A : Type 0} (old new now : EndpointValue) (items : List EndItem) (at : ℕ) (rest : List ℕ) (c : MuxCall) (IsAnswer : A → Type 0) (x : A) → Answers old new items at rest (OfMux c) IsAnswer (Ok x) → now.state ≡ state.Stopped

@@ -102,11 +102,12 @@ module _ (old new : EndpointValue) (items : List EndItem) (at : ℕ) (rest : Lis
             table = adds.stands.table;
             producer = adds.stands.producer;
             consumer = adds.stands.consumer;
+            owner = adds.stands.owner;
+            holder = adds.stands.holder;
             at_is = adds.stands.at_is;
             rest_is = adds.stands.rest_is ∙ drop-drop size (consumed c items) bytes;
             state = adds.stands.state;
             allowed = adds.stands.allowed;
-            built = adds.stands.built;
             said = adds.stands.said;
             named = adds.stands.named;
           };

@@ -1,5 +1,5 @@
 -- What calls of connections answer.
-use Rattle.std.specs.Prelude.{ℕ, List, [], ◌∷◌, ◌++◌, ◌<◌, length, get_or, set, nat_lt, Bool, true, false, ◌&&◌, if◌then◌else◌, Option, Some, None, Result, Ok, Err}
+use Rattle.std.specs.Prelude.{ℕ, List, [], ◌∷◌, ◌++◌, ◌<◌, length, get_or, set, nat_lt, Bool, true, false, not, ◌&&◌, if◌then◌else◌, Option, Some, None, Result, Ok, Err}
 use Rattle.std.specs.List.{position, position_or_len}
 use Rattle.std.proofs.lemmas.Bool.{ltb-true}
 use Rattle.std.proofs.Common.{◌≡◌, inl, inr, refl, sym, ◌∙◌, ap, subst, arith}
@@ -35,14 +35,14 @@ use Rattle.endpoint_items.specs.Following.{followed, write_said}
 use Rattle.endpoint_items.specs.Items.{EndItem, DidCall, terms_of}
 use Rattle.endpoint_items.specs.Layers.{mux_of, rpc_of}
 use Rattle.endpoint.specs.declared.attached.Attached.{Attached}
-use Rattle.endpoint.specs.Calls.{attached_place, room_refusal}
+use Rattle.endpoint.specs.Calls.{attached_place, room_refusal, saying_refusal}
 use Rattle.endpoint.specs.Changes.{Moves, finished, with_connections}
 use Rattle.endpoint.specs.Replies.{Adds, Answers, AnswersBy, early_refusal}
 use Rattle.endpoint.specs.Sending.{FinishesSaid, IsAt, SendsAt, Writes}
 use Rattle.endpoint.specs.Stands.{ConnectionStands, IsConnection, Stands}
-use Rattle.endpoint.specs.Value.{EndpointValue, connection_at, value_in}
+use Rattle.endpoint.specs.Value.{AreOfOne, EndpointValue, connection_at, value_in}
 use Rattle.endpoint.proofs.Places.{absent, at_place, keys_of}
-use Rattle.endpoint.proofs.Sending.{at_set, same_set}
+use Rattle.endpoint.proofs.Sending.{at_set, one_set, same_set}
 use Rattle.endpoint.proofs.OnChannel.{adds_on, followed_taken}
 use Rattle.endpoint.proofs.Standing.{not_stopped}
 
@@ -116,7 +116,7 @@ module _ {A : Type 0} (old new : EndpointValue) (items : List EndItem) (at : ℕ
       (ap (connection_at c) is ∙ (placed.changes y refl c ∙ rw (same_key_refl c) refl))
       (λ d differs. ap (connection_at d) is ∙ (placed.changes y refl d ∙ rw differs refl))
       (subst (λ con. ConnectionStands (Some now) con (terms_of c items) (consumed c items) (rest_of v c items)) (sym connection) (record {
-        stands = record { table = t.table; producer = t.producer; consumer = t.consumer; at_is = t.at_is; rest_is = t.rest_is; state = t.state; allowed = t.allowed; built = t.built; said = t.said; named = t.named };
+        stands = record { table = t.table; producer = t.producer; consumer = t.consumer; owner = t.owner; holder = t.holder; at_is = t.at_is; rest_is = t.rest_is; state = t.state; allowed = t.allowed; said = t.said; named = t.named };
         terms_are = adds.terms_stay ∙ has.stands.terms_are;
         written = refl;
       }))
@@ -226,45 +226,62 @@ none_attached old items at rest key s found =
     no_connection (rpc_of old.mux.version key items) (terms_of key items) (consumed key items) (rest_of old.mux.version key items)
     (subst (λ o. ConnectionStands o (rpc_of old.mux.version key items) (terms_of key items) (consumed key items) (rest_of old.mux.version key items)) (absent key old.connections found) (s.connections key))
 
+pub not_attached : (old : EndpointValue) (items : List EndItem) (at : ℕ) (rest : List ℕ) (key : ChannelKey) (error : CallFault) → Stands old items at rest
+    → Err error ≡ attached_place old.state (position (λ (attached : Attached). same_key key attached.key) old.connections) → (error ≡ fault.Refused refusal.NotAttached) × (rpc_of old.mux.version key items ≡ None)
+not_attached old items at rest key error s e = by old.state (position (λ (attached : Attached). same_key key attached.key) old.connections) refl refl e
+  where
+    by : (is : EndState) (found : Option ℕ) → old.state ≡ is → position (λ (attached : Attached). same_key key attached.key) old.connections ≡ found → Err error ≡ attached_place is found
+        → (error ≡ fault.Refused refusal.NotAttached) × (rpc_of old.mux.version key items ≡ None)
+    by state.Stopped found is none e = absurd (not_stopped old items at rest s is)
+    by state.Running (Some n) is none e = absurd (cc e)
+    by (state.Ended why) (Some n) is none e = absurd (cc e)
+    by state.Running None is none e = (cc e, none_attached old items at rest key s none)
+    by (state.Ended why) None is none e = (cc e, none_attached old items at rest key s none)
+
 module _ {A : Type 0} (old : EndpointValue) (items : List EndItem) (at : ℕ) (rest : List ℕ) (key : ChannelKey) (call : RpcCall) (IsAnswer : A → Type 0) (error : CallFault) where
   refuses : (r : Refusal) → error ≡ fault.Refused r → connection_refusal old.mux.version key call items ≡ Some r → Answers old old items at rest (OfConnection key call) IsAnswer (Err error)
   refuses r is law =
       subst (λ (e : CallFault). Answers old old items at rest (OfConnection key call) IsAnswer (Err e)) (sym is)
       (subst (λ o. AnswersBy old old items at rest (OfConnection key call) o (early_refusal old.mux.version (OfConnection key call) items) IsAnswer (Err (fault.Refused r))) (sym law) (refl, refl))
 
-  unattached_by : (s : EndState) (found : Option ℕ) → Stands old items at rest → old.state ≡ s → position (λ (attached : Attached). same_key key attached.key) old.connections ≡ found → Err error ≡ attached_place s found
-      → Answers old old items at rest (OfConnection key call) IsAnswer (Err error)
-  unattached_by state.Stopped found s is none e = absurd (not_stopped old items at rest s is)
-  unattached_by state.Running (Some n) s is none e = absurd (cc e)
-  unattached_by (state.Ended why) (Some n) s is none e = absurd (cc e)
-  unattached_by state.Running None s is none e = refuses refusal.NotAttached (cc e) (rw (none_attached old items at rest key s none) refl)
-  unattached_by (state.Ended why) None s is none e = refuses refusal.NotAttached (cc e) (rw (none_attached old items at rest key s none) refl)
-
   pub unattached_answers : Stands old items at rest → Err error ≡ attached_place old.state (position (λ (attached : Attached). same_key key attached.key) old.connections) → Answers old old items at rest (OfConnection key call) IsAnswer (Err error)
-  unattached_answers s e = unattached_by old.state (position (λ (attached : Attached). same_key key attached.key) old.connections) s refl refl e
+  unattached_answers s e = let p = not_attached old items at rest key error s e in refuses refusal.NotAttached p.0 (rw p.1 refl)
 
-  -- a call of one without room
+  -- a call that says something is refused as each of those is
+  pub unsaid_answers : emits call ≡ true → Tests {A = ℕ} (saying_refusal old.mux.version key items) (Err error) → Answers old old items at rest (OfConnection key call) IsAnswer (Err error)
+  unsaid_answers emitting t = by error refl t
+    where
+      v : Version
+      v = old.mux.version
 
-  spent_by : (spent : Bool) (error' : CallFault) → error ≡ error' → is_spent_on key (mux_of old.mux.version items) ≡ spent → was_attached (rpc_of old.mux.version key items) ≡ true → emits call ≡ true → Tests {A = Unit {0}} (room_refusal spent) (Err error')
-      → Answers old old items at rest (OfConnection key call) IsAnswer (Err error)
-  spent_by true (fault.Refused r) is spent was emitting t = refuses refusal.BytesSpent (is ∙ cc t) (rw (was, emitting, spent) refl)
-  spent_by false (fault.Refused r) is spent was emitting t = absurd (cc t)
-  spent_by spent' fault.OutOfMemory is spent was emitting t = absurd t
+      law : (r : Refusal) (was spent : Bool) → (if not was then Some refusal.NotAttached else room_refusal spent) ≡ Some r
+          → (if not was then Some refusal.NotAttached else if emits call && spent then Some refusal.BytesSpent else rpc.call_refusal (encoder (terms_of key items).encoding) call (items_of (rpc_of v key items))) ≡ Some r
+      law r false spent e = e
+      law r true true e = rw emitting e
+      law r true false e = absurd (cc e)
 
-  pub spent_answers : was_attached (rpc_of old.mux.version key items) ≡ true → emits call ≡ true → Tests {A = Unit {0}} (room_refusal (is_spent_on key (mux_of old.mux.version items))) (Err error)
-      → Answers old old items at rest (OfConnection key call) IsAnswer (Err error)
-  spent_answers was emitting t = spent_by (is_spent_on key (mux_of old.mux.version items)) error refl refl was emitting t
+      by : (e : CallFault) → error ≡ e → Tests {A = ℕ} (saying_refusal v key items) (Err e) → Answers old old items at rest (OfConnection key call) IsAnswer (Err error)
+      by (fault.Refused r) is t = refuses r is (law r (was_attached (rpc_of v key items)) (is_spent_on key (mux_of v items)) t)
+      by fault.OutOfMemory is t = absurd t
 
-room_by : (spent : Bool) → room_refusal spent ≡ None → spent ≡ false
-room_by true e = absurd (cc e)
-room_by false e = refl
+-- what is tested before something is said
 
-pub has_room : (call : RpcCall) (spent : Bool) → room_refusal spent ≡ None → (emits call && spent) ≡ false
-has_room call spent e = ap (λ b. emits call && b) (room_by spent e) ∙ and_none (emits call)
+pub unattached_tests : (old : EndpointValue) (items : List EndItem) (at : ℕ) (rest : List ℕ) (key : ChannelKey) (error : CallFault) → Stands old items at rest
+    → Err error ≡ attached_place old.state (position (λ (attached : Attached). same_key key attached.key) old.connections) → Tests {A = ℕ} (saying_refusal old.mux.version key items) (Err error)
+unattached_tests old items at rest key error s e = let p = not_attached old items at rest key error s e in rw (p.0, p.1) refl
+
+pub spent_tests : (v : Version) (c : ChannelKey) (items : List EndItem) (error : CallFault) → was_attached (rpc_of v c items) ≡ true → Tests {A = Unit {0}} (room_refusal (is_spent_on c (mux_of v items))) (Err error)
+    → Tests {A = ℕ} (saying_refusal v c items) (Err error)
+spent_tests v c items (fault.Refused r) was t = rw was t
+spent_tests v c items fault.OutOfMemory was t = absurd t
+
+pub has_room : (v : Version) (c : ChannelKey) (items : List EndItem) (call : RpcCall) → saying_refusal v c items ≡ None → was_attached (rpc_of v c items) ≡ true → (emits call && is_spent_on c (mux_of v items)) ≡ false
+has_room v c items call none was = by (emits call) (is_spent_on c (mux_of v items)) (rw was at none)
   where
-    and_none : (b : Bool) → (b && false) ≡ false
-    and_none true = refl
-    and_none false = refl
+    by : (saying spent : Bool) → room_refusal spent ≡ None → (saying && spent) ≡ false
+    by saying true e = absurd (cc e)
+    by true false e = refl
+    by false false e = refl
 
 -- a connection that was found
 
@@ -275,7 +292,7 @@ placed_within n total place e = by (nat_lt n total) refl e
     by true less found = subst (λ k. k < total) (cc found) (ltb-true n total less)
     by false less found = absurd (cc found)
 
-pub found_within : (key : ChannelKey) (xs : List Attached) (place : ℕ) → position (λ (attached : Attached). same_key key attached.key) xs ≡ Some place → place < length xs
+found_within : (key : ChannelKey) (xs : List Attached) (place : ℕ) → position (λ (attached : Attached). same_key key attached.key) xs ≡ Some place → place < length xs
 found_within key xs place found = placed_within (position_or_len (λ (attached : Attached). same_key key attached.key) xs) (length xs) place found
 
 connected : (connection : Connection) (found : Option RpcValue) (terms : Terms) (at : ℕ) (rest : List ℕ) (end : RpcValue) → found ≡ Some end → ConnectionStands found connection terms at rest → was_attached connection ≡ true
@@ -290,6 +307,12 @@ found_attached old items at rest place key s found = elim (slice_get_cases old.c
       (at_place key old.connections place here.0 found (sym here.3)).found (s.connections key)
   | inr past ↦ absurd (omega (arith, found_within key old.connections place found, past.0))
 ]
+
+-- with the one at a place as a call left it, no channel has two connections
+pub one_called : (mux : EndValue) (xs : List Attached) (stopped : Bool) (old : EndpointValue) (key : ChannelKey) (place : ℕ) (x : Attached) (end : RpcValue) → value_in mux xs stopped ≡ old
+    → position (λ (attached : Attached). same_key key attached.key) old.connections ≡ Some place → x ≡ get_or xs place x → AreOfOne xs → AreOfOne (set xs place (record x { end = end }))
+one_called mux xs stopped old key place x end view found is one =
+    one_set xs place x (record x { end = end }) (subst (λ (e : EndpointValue). place < length e.connections) (sym view) (found_within key old.connections place found)) is refl one
 
 -- a fault is what the call answers
 pub finishes_fault : {A : Type 0} (old new : EndpointValue) (place : ℕ) (error : CallFault) (result : Result A CallFault) → result ≡ Err error → new ≡ finished {A = A} (Err error) old → FinishesSaid {A = A} old new place (Err error) result

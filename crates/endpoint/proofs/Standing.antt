@@ -1,8 +1,12 @@
 -- What an end with connections stands for at one channel.
-use Rattle.std.specs.Prelude.{ℕ, List, [], Bool, true, false, ◌&&◌, nat_lt, nat_le, Option, Some, None}
+use Rattle.std.specs.Prelude.{ℕ, List, [], Bool, true, false, ◌&&◌, ◌==◌, is_some, nat_lt, nat_le, if◌then◌else◌, Option, Some, None}
 use Rattle.std.specs.List.{position}
 use Rattle.std.proofs.Common.{◌≡◌, refl, sym, ◌∙◌, ap, arith, subst, get_or}
 use Rattle.std.proofs.lemmas.Bool.Decides.{nat_tests}
+use Rattle.marshalled_handles.specs.Stands.{standing}
+use Rattle.rpc_items.specs.declared.calls.HandleKey.{HandleKey}
+use Rattle.rpc_items.specs.Handles.{is_live}
+use Rattle.rpc_items.specs.Made.{Made}
 use Rattle.rpc_items.specs.Outcomes.{NoRequest, outcome}
 use Rattle.wire_base.specs.declared.state.EndState.TheVariants as state
 use Rattle.mux_items.specs.declared.channel.ChannelKey.{ChannelKey}
@@ -71,3 +75,15 @@ none_drawn n = rw (undrawn n) refl
   where
     undrawn : (k : ℕ) → (nat_lt 0 k && nat_le k 0) ≡ false
     undrawn k = grind (arith, nat_tests)
+
+-- nor does a handle stand
+pub none_standing : (key : HandleKey) → None ≡ standing key []
+none_standing key = ap (λ made. if made then Some (is_live key []) else None) (sym (unmade key.own (key.number == 0)))
+  where
+    none : Option Made
+    none = None
+
+    unmade : (own zero : Bool) → (if own then is_some (if zero then none else none) else false) ≡ false
+    unmade true true = refl
+    unmade true false = refl
+    unmade false zero = refl

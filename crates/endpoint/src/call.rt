@@ -2,12 +2,11 @@
 
 ghost use Rattle.call_table.specs.Table.{shown};
 ghost use Rattle.endpoint.specs.Applied.{Applies, StaysStopped, TellsOf, as_reply};
-ghost use Rattle.endpoint_items.specs.Built.{is_built_call};
 ghost use Rattle.endpoint.specs.Stands.{Stands};
 ghost use Rattle.endpoint_items.specs.Items.{EndItem};
 ghost use Rattle.mux_end.specs.Replies.{KeepsTerms};
 ghost use Rattle.mux_items.specs.declared.call.Call.TheVariants as mux_call;
-ghost use Rattle.std.specs.Prelude.{◌≡◌, List, IsOkAnd, MatchResult, true, ℕ};
+ghost use Rattle.std.specs.Prelude.{◌≡◌, List, IsOkAnd, MatchResult, ℕ};
 
 use crate::endpoint::Endpoint;
 use endpoint_items::{Call, Reply};
@@ -44,7 +43,6 @@ impl Endpoint {
     /// Makes a call: the one of that name, or the question what became of a request. A stopped end refuses each. Where
     /// memory runs out the end is stopped.
     pub fn apply(&mut self, call: Call) -> Reply
-        requires { is_built_call call ≡ true }
         ensures applies { (items : List EndItem) (at : ℕ) (rest : List ℕ) → Stands self.old items at rest → Applies self.old self.new items at rest call result }
         ensures stopped { StaysStopped self.old self.new result }
         ensures terms { KeepsTerms self.old.mux self.new.mux }
@@ -57,7 +55,6 @@ impl Endpoint {
     }
 
     fn try_call(&mut self, call: Call) -> Result<Reply, CallFault>
-        requires { is_built_call call ≡ true }
         ensures applies { (items : List EndItem) (at : ℕ) (rest : List ℕ) → Stands self.old items at rest → Applies self.old self.new items at rest call (as_reply result) }
         ensures stopped { StaysStopped self.old self.new (as_reply result) }
         ensures terms { KeepsTerms self.old.mux self.new.mux }
@@ -75,6 +72,10 @@ impl Endpoint {
             Call::TakeReport(key, n) => self.take_report(key, n).map(Reply::Report),
             Call::Next(key, n) => self.next(key, n).map(Reply::Number),
             Call::Abort(key, n) => done(self.abort(key, n)),
+            Call::Invoke(key, handle, method, args, expect) => self
+                .invoke(key, handle, &method, args, expect)
+                .map(Reply::Number),
+            Call::Release(key, handle) => done(self.release(key, handle)),
             Call::Outcome(key, n) => self.tell(key, n),
             Call::Forget(key, n) => done(self.forget(key, n)),
         }

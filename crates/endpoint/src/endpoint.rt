@@ -8,18 +8,21 @@ ghost use Rattle.endpoint_items.specs.Connections.{items_of, was_attached};
 ghost use Rattle.endpoint_items.specs.Items.{EndItem};
 ghost use Rattle.endpoint_items.specs.Layers.{mux_of, rpc_of};
 ghost use Rattle.endpoint_items.specs.Outcomes.{outcome_on};
+ghost use Rattle.marshalled_handles.specs.Numbers.{adopted_numbers};
+ghost use Rattle.marshalled_handles.specs.Stands.{standing};
 ghost use Rattle.mux_end.specs.Replies.{KeepsTerms};
 ghost use Rattle.mux_items.specs.Bodies.{same_key};
 ghost use Rattle.mux_items.specs.Items.{ended};
 ghost use Rattle.mux_items.specs.Refusals.{is_ready};
 ghost use Rattle.mux_items.specs.Views.{known_keys, tally_of, view_of};
 ghost use Rattle.rpc_items.specs.Drawn.{drawn};
+ghost use Rattle.rpc_items.specs.Made.{last_handle};
 ghost use Rattle.std.specs.List.{position};
 ghost use Rattle.std.specs.Prelude.{◌≡◌, ◌≤◌, IfOk, List, drop, false, length, slice_get, ℕ};
 
 use crate::attached::Attached;
 use mux_end::{ChannelKey, ChannelView, MuxEnd, Tally, same_key};
-use rpc_end::Look;
+use rpc_end::{HandleKey, Look};
 use std::alloc::Global;
 use std::marker::Model;
 use wire_base::{CallFault, Cause, EndState, OutOfMemory, Version};
@@ -39,11 +42,12 @@ impl Model for Endpoint {
     ghost use Rattle.call_table.specs.Codes.{coded_table};
     ghost use Rattle.enumerables.specs.Codes.{coded_followed, coded_sequences};
     ghost use Rattle.endpoint.specs.Value.{AreOfOne, EndpointValue, value_in};
+    ghost use Rattle.marshalled_handles.specs.Codes.{coded_held, coded_made};
     ghost use Rattle.std.specs.Coded.{codes};
 
     ghost Value = { EndpointValue };
 
-    ghost coded = { Prim.hlevel (codes, coded_table, coded_sequences, coded_followed) };
+    ghost coded = { Prim.hlevel (codes, coded_table, coded_sequences, coded_followed, coded_made, coded_held) };
 
     ghost view = { λ e. value_in e.mux e.connections.items e.stopped };
 
@@ -146,6 +150,33 @@ impl Endpoint {
             Some(place) => self.connections[place].end.last_request(),
             None => 0,
         }
+    }
+
+    /// The last handle that was drawn for an object on a channel, 0 before the first. It takes no memory.
+    pub fn last_handle(&self, key: ChannelKey) -> u64
+        ensures { (items : List EndItem) (at : ℕ) (rest : List ℕ) → Stands self.now items at rest → result ≡ last_handle (items_of (rpc_of self.now.mux.version key items)) }
+    {
+        match self.place_of(key) {
+            Some(place) => self.connections[place].end.last_handle(),
+            None => 0,
+        }
+    }
+
+    /// Whether a handle of the connection of a channel lives, where it was made or adopted. It takes no memory.
+    pub fn handle(&self, channel: ChannelKey, key: HandleKey) -> Option<bool>
+        ensures { (items : List EndItem) (at : ℕ) (rest : List ℕ) → Stands self.now items at rest → result ≡ standing key (items_of (rpc_of self.now.mux.version channel items)) }
+    {
+        let place = self.place_of(channel)?;
+        self.connections[place].end.handle(key)
+    }
+
+    /// The handle of the peer at this place, from 0, among those that the connection of a channel adopted, by rising number. It
+    /// takes no memory.
+    pub fn peer_handle(&self, channel: ChannelKey, i: usize) -> Option<u64>
+        ensures { (items : List EndItem) (at : ℕ) (rest : List ℕ) → Stands self.now items at rest → result ≡ slice_get (adopted_numbers (items_of (rpc_of self.now.mux.version channel items))) i }
+    {
+        let place = self.place_of(channel)?;
+        self.connections[place].end.peer_handle(i)
     }
 
     /// The peer's stream has ended, and so have all connections. It takes no memory.

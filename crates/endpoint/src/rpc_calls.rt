@@ -1,6 +1,6 @@
 //! The calls of an end that are calls of a connection.
 
-ghost use Rattle.endpoint.specs.Calls.{attached_place, room_refusal};
+ghost use Rattle.endpoint.specs.Calls.{attached_place, room_refusal, saying_refusal};
 ghost use Rattle.endpoint.specs.Replies.{Answers, RefusesStopped};
 ghost use Rattle.endpoint.specs.Sending.{FinishesSaid};
 ghost use Rattle.endpoint.specs.Stands.{Stands};
@@ -10,18 +10,17 @@ ghost use Rattle.endpoint_items.specs.Items.{EndItem};
 ghost use Rattle.endpoint_items.specs.Layers.{mux_of, rpc_of};
 ghost use Rattle.mux_end.specs.Replies.{KeepsTerms};
 ghost use Rattle.mux_items.specs.Bodies.{same_key};
-ghost use Rattle.rpc_end.specs.Built.{are_built_args, is_built_answer};
 ghost use Rattle.rpc_end.specs.Calls.{Tests};
 ghost use Rattle.rpc_items.specs.Drawn.{drawn};
-ghost use Rattle.rpc_items.specs.Items.{Abort, Ask, Cancel, Forget, Next, Report, Respond, TakeReport, Tell};
+ghost use Rattle.rpc_items.specs.Items.{Abort, Ask, Cancel, Forget, Invoke, Next, Release, Report, Respond, TakeReport, Tell};
 ghost use Rattle.rpc_items.specs.Reports.{reports};
 ghost use Rattle.std.specs.List.{position};
-ghost use Rattle.std.specs.Prelude.{◌≡◌, ◌<◌, ◌+◌, List, length, slice_get, true, ℕ};
+ghost use Rattle.std.specs.Prelude.{◌≡◌, ◌<◌, ◌+◌, IfOk, List, Some, length, slice_get, true, ℕ};
 
 use crate::endpoint::Endpoint;
 use mux_end::ChannelKey;
 use mux_items::MOST_BYTES;
-use rpc_end::{Answer, Arguments, Expect};
+use rpc_end::{Answer, Arguments, Expect, HandleKey};
 use wire_base::{CallFault, Datum, Id, Refusal, Text};
 
 /// No message has more bytes than these, with its head.
@@ -36,14 +35,12 @@ impl Endpoint {
         args: Arguments,
         expect: Expect,
     ) -> Result<u64, CallFault>
-        requires { are_built_args args ≡ true }
         ensures answers { (items : List EndItem) (at : ℕ) (rest : List ℕ) → Stands self.old items at rest →
             Answers self.old self.new items at rest (OfConnection key (Ask method.now args expect)) (λ n. n ≡ drawn (items_of (rpc_of self.old.mux.version key items)) + 1) result }
         ensures stopped { RefusesStopped self.old self.new result }
         ensures terms { KeepsTerms self.old.mux self.new.mux }
     {
-        let place = self.check_attached(key)?;
-        self.check_room(key)?;
+        let place = self.check_saying(key)?;
         let asked = self.connections[place].end.request(method, args, expect);
         self.finish_said(place, asked)
     }
@@ -55,28 +52,24 @@ impl Endpoint {
         method: &Text,
         args: Arguments,
     ) -> Result<(), CallFault>
-        requires { are_built_args args ≡ true }
         ensures answers { (items : List EndItem) (at : ℕ) (rest : List ℕ) → Stands self.old items at rest →
             Answers self.old self.new items at rest (OfConnection key (Tell method.now args)) (λ _. Unit {0}) result }
         ensures stopped { RefusesStopped self.old self.new result }
         ensures terms { KeepsTerms self.old.mux self.new.mux }
     {
-        let place = self.check_attached(key)?;
-        self.check_room(key)?;
+        let place = self.check_saying(key)?;
         let told = self.connections[place].end.notify(method, args);
         self.finish_said(place, told)
     }
 
     /// Says the one response to a request of the peer on a channel. Where that is a sequence, it has the first values of it.
     pub fn respond(&mut self, key: ChannelKey, id: &Id, answer: Answer) -> Result<(), CallFault>
-        requires { is_built_answer answer ≡ true }
         ensures answers { (items : List EndItem) (at : ℕ) (rest : List ℕ) → Stands self.old items at rest →
             Answers self.old self.new items at rest (OfConnection key (Respond id.now answer)) (λ _. Unit {0}) result }
         ensures stopped { RefusesStopped self.old self.new result }
         ensures terms { KeepsTerms self.old.mux self.new.mux }
     {
-        let place = self.check_attached(key)?;
-        self.check_room(key)?;
+        let place = self.check_saying(key)?;
         let answered = self.connections[place].end.respond(id, answer);
         self.finish_said(place, answered)
     }
@@ -88,8 +81,7 @@ impl Endpoint {
         ensures stopped { RefusesStopped self.old self.new result }
         ensures terms { KeepsTerms self.old.mux self.new.mux }
     {
-        let place = self.check_attached(key)?;
-        self.check_room(key)?;
+        let place = self.check_saying(key)?;
         let cancelled = self.connections[place].end.cancel(n);
         self.finish_said(place, cancelled)
     }
@@ -107,8 +99,7 @@ impl Endpoint {
         ensures stopped { RefusesStopped self.old self.new result }
         ensures terms { KeepsTerms self.old.mux self.new.mux }
     {
-        let place = self.check_attached(key)?;
-        self.check_room(key)?;
+        let place = self.check_saying(key)?;
         let reported = self.connections[place].end.report(id, token, value);
         self.finish_said(place, reported)
     }
@@ -121,8 +112,7 @@ impl Endpoint {
         ensures stopped { RefusesStopped self.old self.new result }
         ensures terms { KeepsTerms self.old.mux self.new.mux }
     {
-        let place = self.check_attached(key)?;
-        self.check_room(key)?;
+        let place = self.check_saying(key)?;
         let asked = self.connections[place].end.next(n);
         self.finish_said(place, asked)
     }
@@ -134,10 +124,42 @@ impl Endpoint {
         ensures stopped { RefusesStopped self.old self.new result }
         ensures terms { KeepsTerms self.old.mux self.new.mux }
     {
-        let place = self.check_attached(key)?;
-        self.check_room(key)?;
+        let place = self.check_saying(key)?;
         let left = self.connections[place].end.abort(n);
         self.finish_said(place, left)
+    }
+
+    /// Says a request to the object of a handle of the peer on a channel, and answers its number.
+    pub fn invoke(
+        &mut self,
+        key: ChannelKey,
+        handle: u64,
+        method: &Text,
+        args: Arguments,
+        expect: Expect,
+    ) -> Result<u64, CallFault>
+        ensures answers { (items : List EndItem) (at : ℕ) (rest : List ℕ) → Stands self.old items at rest →
+            Answers self.old self.new items at rest (OfConnection key (Invoke handle method.now args expect)) (λ n. n ≡ drawn (items_of (rpc_of self.old.mux.version key items)) + 1) result }
+        ensures stopped { RefusesStopped self.old self.new result }
+        ensures terms { KeepsTerms self.old.mux self.new.mux }
+    {
+        let place = self.check_saying(key)?;
+        let called = self.connections[place]
+            .end
+            .invoke(handle, method, args, expect);
+        self.finish_said(place, called)
+    }
+
+    /// Releases a handle of either side on a channel, and tells the peer.
+    pub fn release(&mut self, key: ChannelKey, handle: HandleKey) -> Result<(), CallFault>
+        ensures answers { (items : List EndItem) (at : ℕ) (rest : List ℕ) → Stands self.old items at rest →
+            Answers self.old self.new items at rest (OfConnection key (Release handle)) (λ _. Unit {0}) result }
+        ensures stopped { RefusesStopped self.old self.new result }
+        ensures terms { KeepsTerms self.old.mux self.new.mux }
+    {
+        let place = self.check_saying(key)?;
+        let released = self.connections[place].end.release(handle);
+        self.finish_said(place, released)
     }
 
     /// Takes the next report that was kept on an own request, where one is left, also after the end of the connection. It
@@ -174,6 +196,17 @@ impl Endpoint {
             Some(place) => Ok(place),
             None => Err(CallFault::Refused(Refusal::NotAttached)),
         }
+    }
+
+    /// Where the connection of a channel stands that has room for one more message.
+    fn check_saying(&self, key: ChannelKey) -> Result<usize, CallFault>
+        ensures found { IfOk result (λ place. position (λ attached. same_key key attached.key) self.now.connections ≡ Some place) }
+        ensures test { (items : List EndItem) (at : ℕ) (rest : List ℕ) → Stands self.now items at rest → Tests (saying_refusal self.now.mux.version key items) result }
+        ensures stopped { RefusesStopped self.now self.now result }
+    {
+        let place = self.check_attached(key)?;
+        self.check_room(key)?;
+        Ok(place)
     }
 
     /// Refuses to say more on a channel that has no room for one more message.

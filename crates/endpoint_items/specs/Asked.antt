@@ -10,7 +10,7 @@ use Rattle.mux_items.specs.Items as mux
 use Rattle.mux_items.specs.Kept.{next_key}
 use Rattle.mux_items.specs.Lists.{unread}
 use Rattle.rpc_items.specs.Drawn.{drawn}
-use Rattle.rpc_items.specs.Items.{Ask, Tell, Respond, Cancel, Report, TakeReport, Next, Abort, Forget}
+use Rattle.rpc_items.specs.Items.{Ask, Tell, Respond, Cancel, Report, TakeReport, Next, Abort, Invoke, Release, Forget}
 use Rattle.rpc_items.specs.Outcomes.{Look, Known, NotYet, NoRequest}
 use Rattle.rpc_items.specs.Reports.{reports}
 use Rattle.endpoint_items.specs.declared.call.Call.{Call}
@@ -35,6 +35,8 @@ made_by (call.Report c id token value) = Some (OfConnection c (Report id token v
 made_by (call.TakeReport c n) = Some (OfConnection c (TakeReport n))
 made_by (call.Next c n) = Some (OfConnection c (Next n))
 made_by (call.Abort c n) = Some (OfConnection c (Abort n))
+made_by (call.Invoke c handle method args expect) = Some (OfConnection c (Invoke handle method args expect))
+made_by (call.Release c key) = Some (OfConnection c (Release key))
 made_by (call.Outcome c n) = None
 made_by (call.Forget c n) = Some (OfConnection c (Forget n))
 
@@ -54,6 +56,7 @@ success v (Attaches c terms) items = reply.Done
 success v (OfConnection c (Ask method args expect)) items = reply.Number (drawn (items_of (rpc_of v c items)) + 1)
 success v (OfConnection c (TakeReport n)) items = reply.Report (slice_get (reports n (items_of (rpc_of v c items))) 0)
 success v (OfConnection c (Next n)) items = reply.Number (drawn (items_of (rpc_of v c items)) + 1)
+success v (OfConnection c (Invoke handle method args expect)) items = reply.Number (drawn (items_of (rpc_of v c items)) + 1)
 success v (OfConnection c call) items = reply.Done
 
 abbrev pub refused_or : Option Refusal → Reply → Reply
@@ -84,5 +87,7 @@ reply_to v (call.Report c id token value) items = reply_made v (OfConnection c (
 reply_to v (call.TakeReport c n) items = reply_made v (OfConnection c (TakeReport n)) items
 reply_to v (call.Next c n) items = reply_made v (OfConnection c (Next n)) items
 reply_to v (call.Abort c n) items = reply_made v (OfConnection c (Abort n)) items
+reply_to v (call.Invoke c handle method args expect) items = reply_made v (OfConnection c (Invoke handle method args expect)) items
+reply_to v (call.Release c key) items = reply_made v (OfConnection c (Release key)) items
 reply_to v (call.Outcome c n) items = told v c n items
 reply_to v (call.Forget c n) items = reply_made v (OfConnection c (Forget n)) items

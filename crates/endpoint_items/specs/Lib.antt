@@ -13,4 +13,3 @@ pub mod Spoken
 pub mod Joined
 pub mod Exchange
 pub mod Asked
-pub mod Built

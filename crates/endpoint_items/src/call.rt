@@ -3,7 +3,7 @@
 ghost use Rattle.std.specs.Prelude.{◌≡◌, IfOk};
 
 use mux_items::ChannelKey;
-use rpc_end::{Answer, Arguments, Expect, Terms};
+use rpc_end::{Answer, Arguments, Expect, HandleKey, Terms};
 use std::alloc::Global;
 use wire_base::{Datum, Id, OutOfMemory, Text};
 
@@ -30,6 +30,10 @@ pub enum Call {
     Next(ChannelKey, u64),
     /// That sequence is given up.
     Abort(ChannelKey, u64),
+    /// It says a request to the object of a handle of the peer.
+    Invoke(ChannelKey, u64, Text, Arguments, Expect),
+    /// It releases a handle of either side.
+    Release(ChannelKey, HandleKey),
     /// What became of one of its requests is asked for. This changes nothing.
     Outcome(ChannelKey, u64),
     /// A known outcome is dropped.
@@ -82,6 +86,11 @@ impl Call {
             Call::TakeReport(key, n) => Ok(Call::TakeReport(*key, *n)),
             Call::Next(key, n) => Ok(Call::Next(*key, *n)),
             Call::Abort(key, n) => Ok(Call::Abort(*key, *n)),
+            Call::Invoke(key, handle, method, args, expect) => {
+                let method = method.copy(alloc)?;
+                Ok(Call::Invoke(*key, *handle, method, args.copy(alloc)?, *expect))
+            }
+            Call::Release(key, handle) => Ok(Call::Release(*key, *handle)),
             Call::Outcome(key, n) => Ok(Call::Outcome(*key, *n)),
             Call::Forget(key, n) => Ok(Call::Forget(*key, *n)),
         }

@@ -1,7 +1,8 @@
 //! What an end answers, as text. A channel is told by the letter of the side that offered it and its id.
 
 use endpoint::{
-    ChannelKey, ChannelView, EndEvent, EndStep, MuxEvent, Outcome, Params, Reply, RpcEvent, Tally,
+    ChannelKey, ChannelView, EndEvent, EndStep, HandleKey, MuxEvent, Outcome, Params, Reply,
+    RpcEvent, Tally, Target,
 };
 use std::alloc::Global;
 use std::test::Fail;
@@ -93,11 +94,49 @@ fn of_params(alloc: Global, params: &Params) -> Result<String, Fail> {
     }
 }
 
+/// Nothing of the service, or the object and the handle by which it is called.
+fn of_target(alloc: Global, target: Target) -> Result<String, Fail> {
+    match target {
+        Target::Root => word(alloc, ""),
+        Target::Object(object, handle) => {
+            Ok(format!(in alloc; " of object {object} by {handle}")?)
+        }
+    }
+}
+
+fn of_asked(
+    alloc: Global,
+    id: &Id,
+    target: Target,
+    (method, params): (&Text, &Params),
+) -> Result<String, Fail> {
+    let (id, params) = (of_id(alloc, id)?, of_params(alloc, params)?);
+    let target = of_target(alloc, target)?;
+    Ok(format!(in alloc; "asked {id} {} {params}{target}", method.as_str())?)
+}
+
+fn of_handle(alloc: Global, key: HandleKey) -> Result<String, Fail> {
+    let side = if key.own { "own" } else { "peer" };
+    Ok(format!(in alloc; "{side} {}", key.number)?)
+}
+
+/// Whether a handle lives.
+pub fn of_life(alloc: Global, lives: Option<bool>) -> Result<String, Fail> {
+    match lives {
+        Some(true) => word(alloc, "lives"),
+        Some(false) => word(alloc, "ended"),
+        None => word(alloc, "none"),
+    }
+}
+
+pub fn of_numbers(alloc: Global, numbers: &[u64]) -> Result<String, Fail> {
+    Ok(format!(in alloc; "{numbers:?}")?)
+}
+
 fn of_message(alloc: Global, event: &RpcEvent) -> Result<String, Fail> {
     match event {
-        RpcEvent::Asked(id, _, method, params) => {
-            let (id, params) = (of_id(alloc, id)?, of_params(alloc, params)?);
-            Ok(format!(in alloc; "asked {id} {} {params}", method.as_str())?)
+        RpcEvent::Asked(id, target, method, params) => {
+            of_asked(alloc, id, *target, (method, params))
         }
         RpcEvent::Told(method, params) => {
             let params = of_params(alloc, params)?;
@@ -109,7 +148,10 @@ fn of_message(alloc: Global, event: &RpcEvent) -> Result<String, Fail> {
         }
         RpcEvent::Answered(n) => Ok(format!(in alloc; "answered {n}")?),
         RpcEvent::Reported(n) => Ok(format!(in alloc; "reported {n}")?),
-        RpcEvent::Released(key) => Ok(format!(in alloc; "released {}", key.number)?),
+        RpcEvent::Released(key) => {
+            let handle = of_handle(alloc, *key)?;
+            Ok(format!(in alloc; "released {handle}")?)
+        }
         RpcEvent::Handled(method) => Ok(format!(in alloc; "handled {}", method.as_str())?),
         RpcEvent::Stray => word(alloc, "stray"),
     }
@@ -161,11 +203,12 @@ pub fn of_step(alloc: Global, side: &str, step: &EndStep) -> Result<String, Fail
     }
 }
 
-/// A number or a flag.
+/// A number, a flag or a text.
 fn of_plain(alloc: Global, value: &Datum) -> Result<String, Fail> {
     match &value.node {
         Node::Whole(number) => Ok(format!(in alloc; "{}", number.get())?),
         Node::Flag(flag) => Ok(format!(in alloc; "{flag}")?),
+        Node::Words(text) => Ok(format!(in alloc; "\"{}\"", text.as_str())?),
         _ => word(alloc, "another value"),
     }
 }
@@ -203,7 +246,7 @@ fn of_pairs(alloc: Global, pairs: &PairList) -> Result<String, Fail> {
     Ok(told)
 }
 
-/// A sequence and a page are told as they are in JSON.
+/// A sequence, a page and an object are told as they are in JSON.
 fn of_value(alloc: Global, value: &Datum) -> Result<String, Fail> {
     match &value.node {
         Node::Pairs(pairs) => of_pairs(alloc, pairs),

@@ -11,6 +11,8 @@ mod calls;
 #[cfg(test)]
 mod closing;
 #[cfg(test)]
+mod objects;
+#[cfg(test)]
 mod order;
 #[cfg(test)]
 mod pieces;

@@ -1,10 +1,9 @@
 //! Rows of text, and two ends that live through them.
 
-ghost use Rattle.endpoint_items.specs.Built.{is_built_call};
-ghost use Rattle.std.specs.Prelude.{◌≡◌, IfOk, true};
-
-use crate::answers::{of_key, of_reply, of_state, of_step, of_tally, of_view, other, word};
-use crate::values::{answer_of, call_of, id_of, number, value};
+use crate::answers::{
+    of_key, of_life, of_numbers, of_reply, of_state, of_step, of_tally, of_view, other, word,
+};
+use crate::values::{answer_of, call_of, count, handle_of, id_of, number, value};
 use endpoint::{Answer, Call, ChannelKey, Encoding, Endpoint, Expect, Framing};
 use rpc_end::Terms;
 use std::alloc::Global;
@@ -28,10 +27,6 @@ pub fn start(alloc: Global, version: Version, nonce: [u8; 16]) -> Result<Endpoin
 /// An end of version 3.
 pub fn fresh(alloc: Global) -> Result<Endpoint, Fail> {
     start(alloc, Version::Three, [0; 16])
-}
-
-fn count(word: &str) -> u64 {
-    number(word).unsigned_abs()
 }
 
 /// The first word, and the others.
@@ -88,9 +83,7 @@ fn broken_off(alloc: Global, body: &str) -> Result<Vec<u8>, Fail> {
 }
 
 /// What a call answers.
-pub fn makes(alloc: Global, side: &str, end: &mut Endpoint, call: Call) -> Result<String, Fail>
-    requires { is_built_call call ≡ true }
-{
+pub fn makes(alloc: Global, side: &str, end: &mut Endpoint, call: Call) -> Result<String, Fail> {
     of_reply(alloc, side, &end.apply(call))
 }
 
@@ -109,9 +102,7 @@ pub fn writes(alloc: Global, key: ChannelKey, bytes: &[u8]) -> Result<mux_items:
     Ok(mux_items::Call::Write(key, bytes))
 }
 
-fn attaches(key: ChannelKey, words: &str) -> Call
-    ensures { is_built_call result ≡ true }
-{
+fn attaches(key: ChannelKey, words: &str) -> Call {
     let (framing_word, encoding_word) = first(words);
     let terms = Terms {
         framing: framing(framing_word),
@@ -120,44 +111,46 @@ fn attaches(key: ChannelKey, words: &str) -> Call
     Call::Attach(key, terms)
 }
 
-fn asks(alloc: Global, key: ChannelKey, words: &str) -> Result<Call, Fail>
-    ensures { IfOk result (λ call. is_built_call call ≡ true) }
-{
-    let (words, expect) = match words.strip_suffix(" sequence") {
+/// The words before `sequence` at the end, where it stands there.
+fn expected(words: &str) -> (&str, Expect) {
+    match words.strip_suffix(" sequence") {
         Some(words) => (words, Expect::Sequence),
         None => (words, Expect::Plain),
-    };
+    }
+}
+
+fn asks(alloc: Global, key: ChannelKey, words: &str) -> Result<Call, Fail> {
+    let (words, expect) = expected(words);
     let (method, args) = call_of(alloc, words)?;
     Ok(Call::Request(key, method, args, expect))
 }
 
-fn tells(alloc: Global, key: ChannelKey, words: &str) -> Result<Call, Fail>
-    ensures { IfOk result (λ call. is_built_call call ≡ true) }
-{
+fn invokes(alloc: Global, key: ChannelKey, words: &str) -> Result<Call, Fail> {
+    let (handle, words) = first(words);
+    let (words, expect) = expected(words);
+    let (method, args) = call_of(alloc, words)?;
+    Ok(Call::Invoke(key, count(handle), method, args, expect))
+}
+
+fn tells(alloc: Global, key: ChannelKey, words: &str) -> Result<Call, Fail> {
     let (method, args) = call_of(alloc, words)?;
     Ok(Call::Notify(key, method, args))
 }
 
-fn answers(alloc: Global, key: ChannelKey, words: &str) -> Result<Call, Fail>
-    ensures { IfOk result (λ call. is_built_call call ≡ true) }
-{
+fn answers(alloc: Global, key: ChannelKey, words: &str) -> Result<Call, Fail> {
     let (id, words) = first(words);
     let answer = answer_of(alloc, words)?;
     Ok(Call::Respond(key, id_of(alloc, id)?, answer))
 }
 
-fn fails(alloc: Global, key: ChannelKey, words: &str) -> Result<Call, Fail>
-    ensures { IfOk result (λ call. is_built_call call ≡ true) }
-{
+fn fails(alloc: Global, key: ChannelKey, words: &str) -> Result<Call, Fail> {
     let (id, code) = first(words);
     let text = Text::from_str(alloc, "no")?;
     let answer = Answer::Fault(number(code), text, None);
     Ok(Call::Respond(key, id_of(alloc, id)?, answer))
 }
 
-fn reports(alloc: Global, key: ChannelKey, words: &str) -> Result<Call, Fail>
-    ensures { IfOk result (λ call. is_built_call call ≡ true) }
-{
+fn reports(alloc: Global, key: ChannelKey, words: &str) -> Result<Call, Fail> {
     let (id, words) = first(words);
     let (token, word) = first(words);
     let (id, token) = (id_of(alloc, id)?, id_of(alloc, token)?);
@@ -166,6 +159,25 @@ fn reports(alloc: Global, key: ChannelKey, words: &str) -> Result<Call, Fail>
 
 fn last(alloc: Global, end: &Endpoint, key: ChannelKey) -> Result<String, Fail> {
     Ok(format!(in alloc; "{}", end.last_request(key))?)
+}
+
+fn made(alloc: Global, end: &Endpoint, key: ChannelKey) -> Result<String, Fail> {
+    Ok(format!(in alloc; "{}", end.last_handle(key))?)
+}
+
+fn handle(alloc: Global, end: &Endpoint, key: ChannelKey, words: &str) -> Result<String, Fail> {
+    of_life(alloc, end.handle(key, handle_of(words)))
+}
+
+/// The handles of the peer that were adopted.
+fn adopted(alloc: Global, end: &Endpoint, key: ChannelKey) -> Result<String, Fail> {
+    let mut numbers = Vec::new(alloc);
+    for i in 0..16 {
+        if let Some(number) = end.peer_handle(key, i) {
+            numbers.push(number)?;
+        }
+    }
+    of_numbers(alloc, numbers.as_slice())
 }
 
 fn view(alloc: Global, end: &Endpoint, key: ChannelKey) -> Result<String, Fail> {
@@ -246,9 +258,17 @@ pub fn hears(alloc: Global, side: &str, end: &mut Endpoint, bytes: &[u8]) -> Res
 }
 
 /// What is seen of a channel.
-fn looks(alloc: Global, end: &Endpoint, key: ChannelKey, name: &str) -> Result<String, Fail> {
+fn looks(
+    alloc: Global,
+    end: &Endpoint,
+    key: ChannelKey,
+    (name, words): (&str, &str),
+) -> Result<String, Fail> {
     match name {
         "last" => last(alloc, end, key),
+        "made" => made(alloc, end, key),
+        "handle" => handle(alloc, end, key, words),
+        "adopted" => adopted(alloc, end, key),
         "view" => view(alloc, end, key),
         "tally" => tally(alloc, end, key),
         _ => word(alloc, "no such call"),
@@ -291,11 +311,13 @@ fn calls(
         "takes" => makes(alloc, side, end, Call::TakeReport(key, count(words))),
         "turns" => makes(alloc, side, end, Call::Next(key, count(words))),
         "leaves" => makes(alloc, side, end, Call::Abort(key, count(words))),
+        "invokes" => makes(alloc, side, end, invokes(alloc, key, words)?),
+        "releases" => makes(alloc, side, end, Call::Release(key, handle_of(words))),
         "outcome" => makes(alloc, side, end, Call::Outcome(key, count(words))),
         "forgets" => makes(alloc, side, end, Call::Forget(key, count(words))),
         _ => match carries(alloc, key, (name, words))? {
             Some(call) => makes(alloc, side, end, Call::Mux(call)),
-            None => looks(alloc, end, key, name),
+            None => looks(alloc, end, key, (name, words)),
         },
     }
 }
@@ -312,7 +334,7 @@ pub fn happens(
     match name {
         "offers" => makes(alloc, side, end, Call::Mux(offers(alloc, words)?)),
         "state" => state(alloc, end),
-        "knows" => knows(alloc, side, end, number(words).unsigned_abs() as usize),
+        "knows" => knows(alloc, side, end, count(words) as usize),
         "input-ends" => input_ends(alloc, end),
         "feeds" => feeds(alloc, end, &sent(alloc, peer, ALL)?),
         "steps" => steps(alloc, side, end),
@@ -378,3 +400,10 @@ pub const LIVE: &str = "
     B hears          | offered A1
     B accepts A1 100 | ok
     A hears          | accepted A1";
+
+/// The same with more room for what is unread.
+pub const WIDE: &str = "
+    A offers a 1000   | A1
+    B hears           | offered A1
+    B accepts A1 1000 | ok
+    A hears           | accepted A1";

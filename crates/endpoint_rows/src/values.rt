@@ -1,15 +1,25 @@
 //! The values that words stand for.
 
-ghost use Rattle.rpc_end.specs.Built.{are_built_args, is_built_answer, is_built_arg};
-ghost use Rattle.std.specs.Prelude.{◌≡◌, IfOk, true};
-
-use endpoint::{Answer, Arg, ArgList, Arguments};
+use endpoint::{Answer, Arg, ArgList, Arguments, HandleKey, Lifetime};
 use std::alloc::Global;
 use std::test::Fail;
 use wire_base::{Blob, Datum, DatumList, Id, Node, PairList, Text, Whole};
 
 pub fn number(word: &str) -> i64 {
     word.trim().parse::<i64>().unwrap_or(0)
+}
+
+pub fn count(word: &str) -> u64 {
+    number(word).unsigned_abs()
+}
+
+/// `own` or `peer`, and the number of a handle.
+pub fn handle_of(words: &str) -> HandleKey {
+    let (side, word) = words.split_once(' ').unwrap_or((words, ""));
+    HandleKey {
+        number: count(word),
+        own: side == "own",
+    }
 }
 
 fn whole(n: i64) -> Datum {
@@ -52,7 +62,7 @@ pub fn value(alloc: Global, word: &str) -> Result<Datum, Fail> {
         "reserved" => reserved(alloc),
         "bytes" => bytes(alloc),
         word => match word.strip_prefix("deep") {
-            Some(depth) => nested(alloc, number(depth).unsigned_abs()),
+            Some(depth) => nested(alloc, count(depth)),
             None => Ok(whole(number(word))),
         },
     }
@@ -72,22 +82,19 @@ fn size(word: &str) -> u32 {
 }
 
 /// The numbers from 1 to the first word's, in pages of the second's, where those of the third go with the result.
-fn in_pages(alloc: Global, words: &str) -> Result<Answer, Fail>
-    ensures { IfOk result (λ answer. is_built_answer answer ≡ true) }
-{
+fn in_pages(alloc: Global, words: &str) -> Result<Answer, Fail> {
     let (last, sizes) = words.split_once(' ').unwrap_or((words, ""));
     let (page, first) = sizes.split_once(' ').unwrap_or((sizes, ""));
     let values = numbers(alloc, number(last))?;
     Ok(Answer::Sequence(values, size(page), size(first)))
 }
 
-/// The answer that words stand for: `sequence` with three numbers, or a value.
-pub fn answer_of(alloc: Global, words: &str) -> Result<Answer, Fail>
-    ensures { IfOk result (λ answer. is_built_answer answer ≡ true) }
-{
-    match words.strip_prefix("sequence ") {
-        Some(sizes) => in_pages(alloc, sizes),
-        None => Ok(Answer::Value(value(alloc, words)?)),
+/// The answer that words stand for: `sequence` with three numbers, `object` with its number, or a value.
+pub fn answer_of(alloc: Global, words: &str) -> Result<Answer, Fail> {
+    match words.split_once(' ') {
+        Some(("sequence", sizes)) => in_pages(alloc, sizes),
+        Some(("object", object)) => Ok(Answer::Object(count(object))),
+        _ => Ok(Answer::Value(value(alloc, words)?)),
     }
 }
 
@@ -100,54 +107,52 @@ pub fn id_of(alloc: Global, word: &str) -> Result<Id, Fail> {
 }
 
 /// An argument with a name.
-fn named(alloc: Global, name: &str, word: &str) -> Result<Arguments, Fail>
-    ensures { IfOk result (λ args. are_built_args args ≡ true) }
-{
+fn named(alloc: Global, name: &str, word: &str) -> Result<Arguments, Fail> {
     let mut pairs = PairList::new(alloc);
     pairs.push((Text::from_str(alloc, name)?, value(alloc, word)?))?;
     Ok(Arguments::Named(pairs))
 }
 
-/// The argument that a word stands for: `progress`, or a value.
-fn argument(alloc: Global, word: &str) -> Result<Arg, Fail>
-    ensures { IfOk result (λ arg. is_built_arg arg ≡ true) }
-{
-    match word {
-        "progress" => Ok(Arg::Progress),
-        word => Ok(Arg::Plain(value(alloc, word)?)),
+/// An object of either lifetime, or a handle of the peer.
+fn passed(kind: &str, number: u64) -> Arg {
+    match kind {
+        "call" => Arg::Object(number, Lifetime::Call),
+        "explicit" => Arg::Object(number, Lifetime::Explicit),
+        _ => Arg::Handed(number),
     }
 }
 
-/// Two arguments.
-fn listed(alloc: Global, first: &str, second: &str) -> Result<Arguments, Fail>
-    ensures { IfOk result (λ args. are_built_args args ≡ true) }
-{
+/// The argument that a word stands for: `progress`, an object as `call:7` or `explicit:7`, a handle of the peer as `handed:1`,
+/// or a value.
+fn argument(alloc: Global, word: &str) -> Result<Arg, Fail> {
+    match word.split_once(':') {
+        Some((kind, number)) => Ok(passed(kind, count(number))),
+        None if word == "progress" => Ok(Arg::Progress),
+        None => Ok(Arg::Plain(value(alloc, word)?)),
+    }
+}
+
+fn listed(alloc: Global, words: &str) -> Result<Arguments, Fail> {
     let mut args = ArgList::new(alloc);
-    args.push(argument(alloc, first)?)?;
-    args.push(argument(alloc, second)?)?;
+    for word in words.split(' ') {
+        args.push(argument(alloc, word)?)?;
+    }
     Ok(Arguments::List(args))
 }
 
-/// The arguments that words stand for: none, `NAME=VALUE`, or two.
-fn arguments(alloc: Global, words: &str) -> Result<Arguments, Fail>
-    ensures { IfOk result (λ args. are_built_args args ≡ true) }
-{
+/// The arguments that words stand for: none, `NAME=VALUE`, or some in order.
+fn arguments(alloc: Global, words: &str) -> Result<Arguments, Fail> {
     if words.is_empty() {
         return Ok(Arguments::Absent);
     }
     match words.split_once('=') {
         Some((name, word)) => named(alloc, name, word),
-        None => {
-            let (first, second) = words.split_once(' ').unwrap_or((words, ""));
-            listed(alloc, first, second)
-        }
+        None => listed(alloc, words),
     }
 }
 
 /// The method that the first word names, and the arguments that the others stand for.
-pub fn call_of(alloc: Global, words: &str) -> Result<(Text, Arguments), Fail>
-    ensures { IfOk result (λ call. are_built_args call.1 ≡ true) }
-{
+pub fn call_of(alloc: Global, words: &str) -> Result<(Text, Arguments), Fail> {
     let (method, words) = words.split_once(' ').unwrap_or((words, ""));
     let args = arguments(alloc, words)?;
     Ok((Text::from_str(alloc, method)?, args))

@@ -10,6 +10,7 @@ pub mod Refining
 pub mod Safety
 pub mod Growing
 pub mod Allowing
+pub mod Resting
 pub mod Applied
 pub mod Shorter
 pub mod Pending

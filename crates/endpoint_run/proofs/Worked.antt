@@ -1,4 +1,5 @@
--- Worked values: both ends attach, A asks and B answers across the ends, and the end of the stream loses a reply that it cuts.
+-- Worked values: both ends attach, A asks and B answers across the ends, the end of the stream loses a reply that it cuts, and
+-- both release one handle.
 use Rattle.std.specs.Prelude.{ℕ, List, [], ◌∷◌, ◌++◌, true, false, Some, pos}
 use Rattle.std.proofs.Common.{◌≡◌, refl, sym, ◌∙◌, arith}
 use Rattle.std.specs.Str.{is_utf8, chars}
@@ -11,6 +12,7 @@ use Rattle.wire_base.specs.Whole.{IsWhole}
 use Rattle.wire_base.specs.Tokens.{head_at, token_at, inner_at, field_at, bytes_at}
 use Rattle.wire_base.specs.Head.{lettered}
 use Rattle.pack_value.specs.Answer as pack
+use Rattle.pack_value.specs.Shortest as shortest
 use Rattle.pack_value.specs.Reading.{run_at, text_at, cut_head, key_at, repeat, pair_at, behind, value_at, items_at, pairs_at}
 use Rattle.message_body.specs.AsRead.{AreMessages}
 use Rattle.message_framing.specs.Front.{front}
@@ -22,17 +24,22 @@ use Rattle.mux_items.specs.declared.channel.ChannelKey.{ChannelKey}
 use Rattle.mux_run.specs.Run.{Terms}
 use Rattle.mux_run.specs.declared.steps.Side.TheVariants.{A, B}
 use Rattle.rpc_items.specs.declared.calls.Answer.TheVariants as answer
+use Rattle.rpc_items.specs.declared.calls.Arg.TheVariants as arg
 use Rattle.rpc_items.specs.declared.calls.Arguments.TheVariants as arguments
 use Rattle.rpc_items.specs.declared.calls.Expect.TheVariants.{Plain}
+use Rattle.rpc_items.specs.declared.calls.Lifetime.TheVariants.{Explicit}
 use Rattle.rpc_items.specs.declared.calls.Outcome.TheVariants.{Replied, Lost}
 use Rattle.rpc_items.specs.declared.messages.Message.{Message}
 use Rattle.rpc_items.specs.declared.messages.Message.TheVariants as message
 use Rattle.rpc_items.specs.declared.messages.Params.TheVariants as params
 use Rattle.rpc_items.specs.Ids.{count_value}
 use Rattle.rpc_items.specs.Items as rpc
+use Rattle.rpc_items.specs.Keys.{own_key, peer_key}
 use Rattle.rpc_items.specs.Outcomes.{Known, NotYet}
+use Rattle.rpc_items.specs.Resting.{releases_of}
 use Rattle.rpc_end.specs.declared.terms.Terms.{Terms as Form}
 use Rattle.endpoint_items.specs.Calls.{OfMux, Attaches, OfConnection}
+use Rattle.endpoint_items.specs.Connections.{items_of}
 use Rattle.endpoint_items.specs.Exchange.{said_on}
 use Rattle.endpoint_items.specs.Items.{terms_of}
 use Rattle.endpoint_items.specs.Layers.{rpc_of}
@@ -143,3 +150,23 @@ known = refl
 lost : outcome_on false version.Three at_a 1 (end_run terms (answered ++ Delivers A 20 ∷ Ends A ∷ [])).a.items ≡ Known Lost
 unfolding front head_text pack.front head_at token_at inner_at field_at bytes_at lettered run_at text_at cut_head key_at repeat pair_at behind value_at items_at pairs_at is_utf8 chars encode
 lost = refl
+
+-- A offers an object with a request. Both sides release its handle, and then hear that the other did: at each it was released once
+abbrev released : List EndStep
+released = attached
+    ++ Calls A (OfConnection at_a (rpc.Ask (109 ∷ []) (arguments.List (arg.Object 7 Explicit ∷ [])) Plain))
+    ∷ Delivers B 1000
+    ∷ Delivers A 1000
+    ∷ Calls A (OfConnection at_a (rpc.Release (own_key 1)))
+    ∷ Calls B (OfConnection at_b (rpc.Release (peer_key 1)))
+    ∷ Delivers A 1000
+    ∷ Delivers B 1000
+    ∷ []
+
+once_at_a : releases_of (own_key 1) (items_of (rpc_of version.Three at_a (end_run terms released).a.items)) ≡ 1
+unfolding front head_text pack.front head_at token_at inner_at field_at bytes_at lettered run_at text_at cut_head key_at repeat pair_at behind value_at items_at pairs_at is_utf8 chars encode shortest.flag_byte
+once_at_a = refl
+
+once_at_b : releases_of (peer_key 1) (items_of (rpc_of version.Three at_b (end_run terms released).b.items)) ≡ 1
+unfolding front head_text pack.front head_at token_at inner_at field_at bytes_at lettered run_at text_at cut_head key_at repeat pair_at behind value_at items_at pairs_at is_utf8 chars encode shortest.flag_byte
+once_at_b = refl

@@ -1,6 +1,5 @@
 -- What each step of a run answers.
-use Rattle.std.specs.Prelude.{◌≡◌, ℕ, List, [], ◌∷◌, ◌++◌, length, nat_lt, Bool, true, not, if◌then◌else◌, Option, Some, None}
-use Rattle.std.specs.List.{list_all}
+use Rattle.std.specs.Prelude.{◌≡◌, ℕ, List, [], ◌∷◌, ◌++◌, length, nat_lt, not, if◌then◌else◌, Option, Some, None}
 use Rattle.wire_base.specs.declared.frame.Version.{Version}
 use Rattle.wire_base.specs.declared.state.Cause.TheVariants as cause
 use Rattle.mux_items.specs.declared.channel.MuxEvent.{MuxEvent}
@@ -12,7 +11,6 @@ use Rattle.mux_run.specs.declared.steps.Side.TheVariants.{A, B}
 use Rattle.rpc_items.specs.Events as rpc
 use Rattle.endpoint_items.specs.declared.event.EndEvent.TheVariants as event
 use Rattle.endpoint_items.specs.Asked.{made_by, reply_to}
-use Rattle.endpoint_items.specs.Built.{is_built_call}
 use Rattle.endpoint_items.specs.Calls.{EndCall}
 use Rattle.endpoint_items.specs.Connections.{items_of}
 use Rattle.endpoint_items.specs.Items.{EndItem, Mux, GotMessage, RefusedMessage}
@@ -118,13 +116,3 @@ pub record TellsOfNew (w : SideTerms) (s : EndStep) (x y : EndSide) : Type 0 whe
   pub newer : List EndItem
   pub items_are : (side_after w s x y).items ≡ newer ++ x.items
   pub events_are : events_in w s x y ≡ events_after w.version x.items newer
-
--- whether a step is no call, or one that is built
-abbrev pub is_built_step : Step → Bool
-is_built_step (step.Call side c) = is_built_call c
-is_built_step (step.Deliver side n) = true
-is_built_step (step.End side) = true
-
--- whether each step is built
-abbrev pub are_built_steps : List Step → Bool
-are_built_steps steps = list_all is_built_step steps

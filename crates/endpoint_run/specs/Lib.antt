@@ -7,4 +7,5 @@ pub mod Settled
 pub mod Midway
 pub mod Quiet
 pub mod Exchange
+pub mod Handles
 pub mod Answers

@@ -21,6 +21,7 @@ ghost use Rattle.endpoint_run.specs.Settled.{IsSettled, TakesTurnsEnough, IsWith
 ghost use Rattle.endpoint_run.specs.Quiet.{DeliversAll};
 ghost use Rattle.endpoint_run.specs.Midway.{all_applied, IsMidway, GoesOn, BeginsMidway};
 ghost use Rattle.endpoint_run.specs.Exchange.{IsExchangeIn, IsExchangeRun, SayMessages};
+ghost use Rattle.endpoint_run.specs.Handles.{HandlesRestRun};
 
 /// At each moment of every run the multiplexing ends are those of a run of finer steps.
 pub fn every_run_is_a_finer_run()
@@ -43,6 +44,12 @@ pub fn items_are_only_added()
 /// end that keep the rules holds of both.
 pub fn every_run_keeps_the_rules()
     ensures { (terms : Terms) (steps : List EndStep) → KeepsRulesRun terms steps }
+{}
+
+/// At each moment of every run a handle was released once at most at either side, by its own call or by a message of the peer;
+/// and once it had ended there, it was neither released nor called.
+pub fn every_run_lets_handles_rest()
+    ensures { (terms : Terms) (steps : List EndStep) → HandlesRestRun terms steps }
 {}
 
 /// After each step of every run nothing whole is left to either side: no handshake or frame of what was delivered to it, and

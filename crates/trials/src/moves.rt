@@ -1,8 +1,5 @@
 //! What a side does in a step, and how that is drawn.
 
-ghost use Rattle.endpoint_run.specs.Answers.{is_built_step};
-ghost use Rattle.std.specs.Prelude.{◌≡◌, IfOk, true};
-
 use crate::channels::Channel;
 use crate::draws::Draws;
 use endpoint_run::{Call, Side, Step};
@@ -43,9 +40,7 @@ fn content(alloc: Global, size: u32) -> Result<Blob, OutOfMemory> {
     Blob::from_bytes(alloc, BYTES.get(..size as usize).unwrap_or(BYTES))
 }
 
-pub fn step_of(alloc: Global, side: Side, makes: Move) -> Result<Step, OutOfMemory>
-    ensures { IfOk result (λ s. is_built_step s ≡ true) }
-{
+pub fn step_of(alloc: Global, side: Side, makes: Move) -> Result<Step, OutOfMemory> {
     let call = match makes {
         Move::Offer(window) => mux_items::Call::Offer(Text::from_str(alloc, "trial")?, window),
         Move::Accept(key, window) => mux_items::Call::Accept(key, window),

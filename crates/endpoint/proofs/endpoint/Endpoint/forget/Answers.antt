@@ -1,9 +1,7 @@
-use Rattle.std.proofs.Common.{◌<◌, length, refl, subst, sym}
+use Rattle.std.proofs.Common.{refl}
 use Rattle.std.proofs.lemmas.Result.{err_from_is_err_and}
 use Rattle.rpc_items.specs.Items.{Forget}
-use Rattle.endpoint.specs.Value.{EndpointValue}
-use Rattle.endpoint.proofs.RpcCalling.{calls, found_place, found_within, unattached_answers}
-use Rattle.endpoint.proofs.Sending.{one_set}
+use Rattle.endpoint.proofs.RpcCalling.{calls, found_place, one_called, unattached_answers}
 use Rattle.endpoint.proofs.endpoint.Endpoint.forget.Goals as goal
 
 pub returns-in_err-place-clause-answers : goal.returns-in_err-place-clause-answers
@@ -13,11 +11,8 @@ returns-in_err-place-clause-answers c = λ items at rest s.
 
 pub invariant_of-self : goal.invariant_of-self
 invariant_of-self c =
-    let xs = c.self.inside.connections.items in
-    let x = c.index_mut.result.now in
-    let old = c.args.self.now in
-    let within : c.in_ok-place.place < length xs = subst (λ (e : EndpointValue). c.in_ok-place.place < length e.connections) (sym c.self.view_is) (found_within c.args.key old.connections c.in_ok-place.place (found_place old.state _ c.in_ok-place.place c.in_ok-place.ensures)) in
-    one_set xs c.in_ok-place.place x (record x { end = c.forget-forgotten.new.self }) within c.index_mut.ensures.value refl c.self.invariant
+    one_called c.self.inside.mux c.self.inside.connections.items c.self.inside.stopped c.args.self.now c.args.key c.in_ok-place.place c.index_mut.result.now c.forget-forgotten.new.self
+    c.self.view_is (found_place c.args.self.now.state _ c.in_ok-place.place c.in_ok-place.ensures) c.index_mut.ensures.value c.self.invariant
 
 pub returns-clause-answers : goal.returns-clause-answers
 returns-clause-answers c = λ items at rest s.

@@ -1,7 +1,7 @@
 use Rattle.std.specs.Prelude.{◌+◌, slice_get}
 use Rattle.std.proofs.Common.{◌≡◌, refl, ap}
 use Rattle.rpc_items.specs.Drawn.{drawn}
-use Rattle.rpc_items.specs.Items.{Abort, Ask, Cancel, Forget, Next, Report, Respond, TakeReport, Tell}
+use Rattle.rpc_items.specs.Items.{Abort, Ask, Cancel, Forget, Invoke, Next, Release, Report, Respond, TakeReport, Tell}
 use Rattle.rpc_items.specs.Reports.{reports}
 use Rattle.endpoint_items.specs.declared.call.Call.TheVariants as call
 use Rattle.endpoint_items.specs.declared.reply.Reply.TheVariants as reply
@@ -64,6 +64,19 @@ pub returns-in-Abort-clause-applies : goal.returns-in-Abort-clause-applies
 returns-in-Abort-clause-applies c = λ items at rest s.
     let a = c.in-Abort in
     rw a.is (done_applied c.args.self.now c.abort.new.self items at rest (call.Abort a.key a.n) (OfConnection a.key (Abort a.n)) refl refl c.abort.result c.done-in-Abort.result c.done-in-Abort.ensures (c.abort.ensures.answers items at rest s))
+
+pub returns-in-Invoke-clause-applies : goal.returns-in-Invoke-clause-applies
+returns-in-Invoke-clause-applies c = λ items at rest s.
+    let old = c.args.self.now in
+    let a = c.in-Invoke in
+    let number = drawn (items_of (rpc_of old.mux.version a.key items)) + 1 in
+    rw a.is (applied old c.invoke.new.self items at rest (call.Invoke a.key a.handle a.method a.args a.expect) (OfConnection a.key (Invoke a.handle a.method a.args a.expect)) (λ m. m ≡ number) reply.Number (reply.Number number) refl refl
+    (λ m e. ap reply.Number e) (λ m. refl) c.invoke.result c.map-in-Invoke.result c.map-in-Invoke.ensures.cases (c.invoke.ensures.answers items at rest s))
+
+pub returns-in-Release-clause-applies : goal.returns-in-Release-clause-applies
+returns-in-Release-clause-applies c = λ items at rest s.
+    let a = c.in-Release in
+    rw a.is (done_applied c.args.self.now c.release.new.self items at rest (call.Release a.key a.handle) (OfConnection a.key (Release a.handle)) refl refl c.release.result c.done-in-Release.result c.done-in-Release.ensures (c.release.ensures.answers items at rest s))
 
 pub returns-in-Forget-clause-applies : goal.returns-in-Forget-clause-applies
 returns-in-Forget-clause-applies c = λ items at rest s.
