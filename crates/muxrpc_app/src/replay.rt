@@ -1,8 +1,7 @@
 //! The command `replay`.
 
-ghost use Rattle.std.specs.Prelude.{◌≡◌, true, IfOk};
+ghost use Rattle.std.specs.Prelude.{◌≡◌, IfOk};
 ghost use Rattle.mux_run.specs.Run.{terms_of};
-ghost use Rattle.endpoint_run.specs.Answers.{are_built_steps};
 ghost use Rattle.duo_world.specs.Stepping.{RunHolds};
 ghost use Rattle.transcript.specs.Report.{report_text};
 ghost use Rattle.muxrpc_app.specs.Outcome.{Replayed};
@@ -16,7 +15,6 @@ use wire_base::{Failed, OutOfMemory, Sink, Source};
 
 /// The report of the run of a script.
 fn report_of(alloc: Global, script: Script) -> Result<Vec<u8>, OutOfMemory>
-    requires { are_built_steps script.steps ≡ true }
     ensures text { IfOk result (λ text. text.items ≡ report_text (terms_of script.version script.nonces) script.steps) }
     ensures holds { IfOk result (λ _. RunHolds (terms_of script.version script.nonces) script.steps) }
 {

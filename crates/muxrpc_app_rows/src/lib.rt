@@ -5,6 +5,8 @@
 #[cfg(test)]
 mod connections;
 #[cfg(test)]
+mod objects;
+#[cfg(test)]
 mod progress;
 #[cfg(test)]
 mod scripts;

@@ -121,9 +121,9 @@ fn words_and_scripts_are_refused(rt: HostRuntime) -> Result<(), Fail> {
         ),
         (
             REPLAY,
-            "script 1\nversion 3\nrelease A A1 own 1\n",
+            "script 1\nversion 3\nrelease A A1 1\n",
             2,
-            "muxrpc: line 3: 94\n",
+            "muxrpc: line 3: 92\n",
         ),
         (
             REPLAY,

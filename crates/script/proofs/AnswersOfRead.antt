@@ -1,8 +1,6 @@
 -- What the exact answer says.
-use Rattle.std.proofs.Common.{◌≡◌, ℕ, true, List, Result, Ok, Err, subst, ◌∙◌, ap}
+use Rattle.std.proofs.Common.{◌≡◌, ℕ, List, Result, Ok, Err, subst, ◌∙◌, ap}
 use Rattle.std.specs.Prelude.{IfOk}
-use Rattle.endpoint_run.specs.Answers.{are_built_steps}
-use Rattle.endpoint_run.specs.declared.steps.Step.{Step}
 use Rattle.mux_run.specs.Run.{Terms, terms_of}
 use Rattle.script.specs.declared.fault.ScriptFault.{ScriptFault}
 use Rattle.script.specs.declared.reading.Script.{Script}
@@ -14,13 +12,6 @@ use Rattle.script.proofs.ScriptLaws.{is_read, written}
 pub text : (bytes : List ℕ) (r : Result Script ScriptFault) → Answers script_seen r (script_in bytes) → IfOk r (λ s. IsScriptOf bytes (terms_of s.version s.nonces) s.steps)
 text bytes (Ok s) h = is_read bytes (terms_of s.version s.nonces) s.steps h
 text bytes (Err fault) h = tt
-
-built_of : (bytes : List ℕ) (terms : Terms) (steps : List Step) → IsScriptOf bytes terms steps → are_built_steps steps ≡ true
-built_of bytes terms steps h = ap are_built_steps h.1 ∙ h.2.scripted.built
-
-pub built : (bytes : List ℕ) (r : Result Script ScriptFault) → Answers script_seen r (script_in bytes) → IfOk r (λ s. are_built_steps s.steps ≡ true)
-built bytes (Ok s) h = built_of bytes (terms_of s.version s.nonces) s.steps (is_read bytes (terms_of s.version s.nonces) s.steps h)
-built bytes (Err fault) h = tt
 
 pub only : (bytes : List ℕ) (r : Result Script ScriptFault) → Answers script_seen r (script_in bytes)
     → (terms : Terms) (lines : List StepLine) → AreTerms terms → AreScripted lines → bytes ≡ script_text terms lines → Answers script_seen r (reads terms (steps_of lines))

@@ -1,12 +1,10 @@
 -- One more line in a script.
-use Rattle.std.proofs.Common.{◌≡◌, ◌<◌, ◌≤◌, ◌+◌, true, List, [], ◌∷◌, ◌++◌, length, length-append, map, refl, arith}
+use Rattle.std.proofs.Common.{◌≡◌, ◌<◌, ◌≤◌, ◌+◌, true, List, [], ◌∷◌, ◌++◌, length, length-append, refl, arith}
 use Rattle.std.specs.List.{list_all}
 use Rattle.std.proofs.lemmas.Bool.{and_parts}
-use Rattle.std.proofs.lemmas.List.{map-append}
 use Rattle.std.proofs.lemmas.List.Folds.{list_all-append}
-use Rattle.endpoint_run.specs.Answers.{is_built_step}
 use Rattle.script.specs.Limits.{most_steps, most_filled}
-use Rattle.script.specs.Spelling.{StepLine, AreScripted, is_spellable, step_of, filled_by, filled_in}
+use Rattle.script.specs.Spelling.{StepLine, AreScripted, is_spellable, filled_by, filled_in}
 
 pub filled_in-append : (lines more : List StepLine) → filled_in (lines ++ more) ≡ filled_in lines + filled_in more
 filled_in-append [] more = omega arith
@@ -15,7 +13,6 @@ filled_in-append (line ∷ lines) more = let ih = filled_in-append lines more in
 -- a line that stands behind these
 pub record MayStand (lines : List StepLine) (line : StepLine) : Type 0 where
   pub spellable : is_spellable line ≡ true
-  pub built : is_built_step (step_of line) ≡ true
   pub few : length lines < most_steps
   pub within : filled_in lines + filled_by line ≤ most_filled
 
@@ -26,7 +23,6 @@ one_more lines line h stands =
     let within = stands.within in
     record {
       spellable = rw (list_all-append is_spellable lines (line ∷ []), h.spellable, stands.spellable) refl;
-      built = rw (map-append step_of lines (line ∷ []), list_all-append is_built_step (map step_of lines) (step_of line ∷ []), h.built, stands.built) refl;
       few = simp length-append (omega arith);
       within = omega arith;
     }
@@ -34,13 +30,11 @@ one_more lines line h stands =
 pub next_stands : (lines more : List StepLine) (line : StepLine) → AreScripted (lines ++ line ∷ more) → MayStand lines line
 next_stands lines more line h =
     let spelled = rw (list_all-append is_spellable lines (line ∷ more)) at (h.spellable) in
-    let built = rw (map-append step_of lines (line ∷ more), list_all-append is_built_step (map step_of lines) (map step_of (line ∷ more))) at (h.built) in
     let filled = filled_in-append lines (line ∷ more) in
     let few = h.few in
     let within = h.within in
     record {
       spellable = (and_parts (is_spellable line) (list_all is_spellable more) (and_parts (list_all is_spellable lines) (list_all is_spellable (line ∷ more)) spelled).1).0;
-      built = (and_parts (is_built_step (step_of line)) (list_all is_built_step (map step_of more)) (and_parts (list_all is_built_step (map step_of lines)) (list_all is_built_step (map step_of (line ∷ more))) built).1).0;
       few = let n = length-append lines (line ∷ more) in omega arith;
       within = omega arith;
     }

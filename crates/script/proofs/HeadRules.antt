@@ -71,7 +71,6 @@ breaks_none reason.BadHead first text rest h b = b.1 h
 breaks_none reason.UnknownStep first text rest h b = b
 breaks_none reason.BadWord first text rest h b = b
 breaks_none reason.BadJson first text rest h b = b
-breaks_none reason.NotBuilt first text rest h b = b
 breaks_none reason.TooManySteps first text rest h b = b
 
 -- the reason of a line that breaks a rule
@@ -89,7 +88,6 @@ breaks_one reason.BadHead first [] b = refl
 breaks_one reason.UnknownStep first rest b = absurd b
 breaks_one reason.BadWord first rest b = absurd b
 breaks_one reason.BadJson first rest b = absurd b
-breaks_one reason.NotBuilt first rest b = absurd b
 breaks_one reason.TooManySteps first rest b = absurd b
 
 length-head_lines : (terms : Terms) → length (head_lines terms) ≡ (if has_nonces terms.version then 4 else 2)

@@ -1,5 +1,5 @@
 -- Scripts and their texts.
-use Rattle.std.proofs.Common.{◌≡◌, ◌≢◌, ℕ, ◌+◌, ◌≤◌, ◌⊎◌, inl, inr, true, false, List, [], ◌∷◌, ◌++◌, length, length-append, map, refl, Err, sym, ap, ap₂, subst, ◌∙◌, arith, append_assoc}
+use Rattle.std.proofs.Common.{◌≡◌, ◌≢◌, ℕ, ◌+◌, ◌≤◌, ◌⊎◌, inl, inr, true, List, [], ◌∷◌, ◌++◌, length, length-append, map, refl, Err, sym, ap, ap₂, subst, ◌∙◌, arith, append_assoc}
 use Rattle.std.specs.Prelude.{◌↔◌}
 use Rattle.std.specs.List.{list_all}
 use Rattle.std.proofs.lemmas.Bool.{and_parts}
@@ -15,20 +15,20 @@ use Rattle.text_words.proofs.ByteTests.{and_true}
 use Rattle.text_words.proofs.Joined.{line-words}
 use Rattle.script.specs.Spelling.{StepLine, AreTerms, AreScripted, is_spellable, is_worded, step_of, line_text, steps_of, filled_in, script_lines, script_text, head_lines, head_text}
 use Rattle.script.specs.Lines.{TextLine, lines_of, whole_line}
-use Rattle.script.specs.Steps.{step_in, begins_step, begins_later}
-use Rattle.script.specs.Rules.{IsHeadRefused, IsStepRefused, IsWorded, IsUnbuilt}
+use Rattle.script.specs.Steps.{step_in, begins_step}
+use Rattle.script.specs.Rules.{IsHeadRefused, IsStepRefused, IsWorded}
 use Rattle.script.specs.Found.{reads, breaks, steps_from, script_from, script_in, IsScriptOf}
 use Rattle.script.proofs.LineTexts.{lacks_feed, lines_of-lack, lines_of-lines, text_of-lines}
 use Rattle.script.proofs.StepLines.{line_text-text}
 use Rattle.script.proofs.StepWords.{worded, Meant, meant}
-use Rattle.script.proofs.StepRules.{has_bad_word, gives_bad_word, has_bad_json, gives_bad_json, is_not_built, gives_not_built, breaks_step, step_refused}
+use Rattle.script.proofs.StepRules.{has_bad_word, gives_bad_word, has_bad_json, gives_bad_json, breaks_step, step_refused}
 use Rattle.script.proofs.HeadLines.{head_lines-texts}
 use Rattle.script.proofs.HeadRules.{refused_within, refused_once, refused_headless}
 use Rattle.script.proofs.Heads.{head_goes_on, head_cases}
 use Rattle.script.proofs.Scripts.{whole_lines, from_lines-lines, from_lines-reads, from_lines-breaks}
 
 none_scripted : AreScripted []
-none_scripted = record { spellable = refl; built = refl; few = omega arith; within = omega arith }
+none_scripted = record { spellable = refl; few = omega arith; within = omega arith }
 
 step_texts : (lines : List StepLine) → list_all is_spellable lines ≡ true → list_all is_line_text (map line_text lines) ≡ true
 step_texts [] h = refl
@@ -165,8 +165,3 @@ bad_word text is_line = (has_bad_word text (words_meant text is_line), λ p. giv
 pub bad_json : (text : List ℕ) → is_line_text text ≡ true → (step_in (words_of text) ≡ Err reason.BadJson)
     ↔ (IsWorded text × ((line : StepLine) → is_spellable line ≡ true → line_text line ≢ text))
 bad_json text is_line = (has_bad_json text (words_meant text is_line), λ p. gives_bad_json text p.0 p.1)
-
--- a line isn't built exactly if it begins with a step word that has no step, or is the text of a step that isn't built
-pub not_built : (text : List ℕ) → is_line_text text ≡ true → (step_in (words_of text) ≡ Err reason.NotBuilt)
-    ↔ ((begins_step (words_of text) ≡ false) × (begins_later (words_of text) ≡ true) ⊎ IsUnbuilt text)
-not_built text is_line = (is_not_built text (words_meant text is_line), gives_not_built text)

@@ -58,7 +58,7 @@ pub from_lines-lines : (terms : Terms) (lines more : List StepLine) (number : �
 from_lines-lines terms lines [] number rest h = rw (append-nil lines, add-zero) refl
 from_lines-lines terms lines (line ∷ more) number rest h =
     let stands = next_stands lines more line h in
-    let first = step_after-line (length lines) (filled_in lines) line stands.spellable stands.built stands.few stands.within in
+    let first = step_after-line (length lines) (filled_in lines) line stands.spellable stands.few stands.within in
     let scripted : AreScripted ((lines ++ line ∷ []) ++ more) = rw (regroup lines more line) h in
     let ih = from_lines-lines terms (lines ++ line ∷ []) more (number + 1) rest scripted in
     let place : number + 1 + length more ≡ number + suc (length more) = omega arith in
@@ -77,7 +77,7 @@ may_stand : (lines : List StepLine) (line : TextLine) (l : LineStep) → (d : Is
 may_stand lines line l d =
     let filled : filled_by d.spelled ≡ l.filled = ap (λ (x : LineStep). x.filled) d.means in
     let within = d.within in
-    record { spellable = d.spellable; built = d.built; few = d.few; within = omega arith }
+    record { spellable = d.spellable; few = d.few; within = omega arith }
 
 -- what stands behind a line that was read
 moved_on : (terms : Terms) (lines : List StepLine) (line : TextLine) (l : LineStep) (number : ℕ) (rest : List TextLine) → (d : IsStepLine (length lines) (filled_in lines) line l)

@@ -6,7 +6,6 @@ use Rattle.std.proofs.lemmas.Bool.{and_parts}
 use Rattle.std.proofs.lemmas.Bool.Decides.{nat_tests}
 use Rattle.std.proofs.lemmas.List.Splits.{join_with_byte-slice_split}
 use Rattle.std.proofs.lemmas.Str.{IsUtf8-from_is_utf8}
-use Rattle.endpoint_run.specs.Answers.{is_built_step}
 use Rattle.text_words.specs.Bytes.{space}
 use Rattle.text_words.specs.Reading.{words_of}
 use Rattle.text_words.specs.Written.{is_line_text, stands_in_line}
@@ -17,11 +16,11 @@ use Rattle.script.specs.declared.reason.ScriptReason.{ScriptReason}
 use Rattle.script.specs.declared.reason.ScriptReason.TheVariants as reason
 use Rattle.script.specs.Limits.{most_steps, most_filled}
 use Rattle.script.specs.Lines.{TextLine, whole_line}
-use Rattle.script.specs.Spelling.{StepLine, meant_by, step_of, line_text, line_words, is_spellable, is_worded, filled_by}
+use Rattle.script.specs.Spelling.{StepLine, meant_by, line_text, line_words, is_spellable, is_worded, filled_by}
 use Rattle.script.specs.Steps.{on_ok, text_in, filling, step_in, step_after}
 use Rattle.script.proofs.TextLemmas.{text_in-ended}
 use Rattle.script.proofs.LineTexts.{lacks_feed}
-use Rattle.script.proofs.StepWords.{worded, line_words-texts, step_in-built, Meant, unknown, later, bad_word, malformed, unbuilt, means, meant}
+use Rattle.script.proofs.StepWords.{worded, line_words-texts, step_in-good, Meant, unknown, bad_word, malformed, means, meant}
 
 pub line_text-text : (line : StepLine) → is_worded line ≡ true → is_line_text (line_text line) ≡ true
 line_text-text line h = joined-text (line_words line) (line_words-texts line h)
@@ -48,13 +47,13 @@ filling-ok filled l h =
     rw room refl
 
 -- the line of a step that may stand there
-pub step_after-line : (steps filled : ℕ) (line : StepLine) → is_spellable line ≡ true → is_built_step (step_of line) ≡ true → steps < most_steps → filled + filled_by line ≤ most_filled
+pub step_after-line : (steps filled : ℕ) (line : StepLine) → is_spellable line ≡ true → steps < most_steps → filled + filled_by line ≤ most_filled
     → step_after steps filled (whole_line (line_text line)) ≡ Ok (meant_by line)
 unfolding step_after
-step_after-line steps filled line h built few within =
+step_after-line steps filled line h few within =
     let room : ltb steps most_steps ≡ true = grind (arith, nat_tests) in
     let w = worded line h in
-    let read : step_in (words_of (line_text line)) ≡ Ok (meant_by line) = ap step_in (line_text-words line w) ∙ step_in-built line h built in
+    let read : step_in (words_of (line_text line)) ≡ Ok (meant_by line) = ap step_in (line_text-words line w) ∙ step_in-good line h in
     rw (text_in-line line w, room, read) (filling-ok filled (meant_by line) within)
 
 pub on_ok-ok : {X Y : Type 0} (r : Result X ScriptReason) (f : X → Result Y ScriptReason) (y : Y) → on_ok r f ≡ Ok y → (x : X) × (r ≡ Ok x) × (f x ≡ Ok y)
@@ -89,7 +88,6 @@ pub record IsStepLine (steps filled : ℕ) (line : TextLine) (l : LineStep) : Ty
   pub end : line.has_end ≡ true
   pub text : line.text ≡ line_text spelled
   pub spellable : is_spellable spelled ≡ true
-  pub built : is_built_step (step_of spelled) ≡ true
   pub means : meant_by spelled ≡ l
   pub few : steps < most_steps
   pub within : filled + l.filled ≤ most_filled
@@ -110,18 +108,15 @@ pub record IsRead (words : List (List ℕ)) (l : LineStep) : Type 0 where
   pub line : StepLine
   pub is : words ≡ line_words line
   pub spellable : is_spellable line ≡ true
-  pub built : is_built_step (step_of line) ≡ true
   pub means : meant_by line ≡ l
 
 is_read : (words : List (List ℕ)) (l : LineStep) → step_in words ≡ Ok l → Meant words → IsRead words l
-is_read words l h (unknown b c e) = cc (sym e ∙ h)
-is_read words l h (later b c e) = cc (sym e ∙ h)
+is_read words l h (unknown b e) = cc (sym e ∙ h)
 is_read words l h (bad_word b e) = cc (sym e ∙ h)
 is_read words l h (malformed line is w bad e) = cc (sym e ∙ h)
-is_read words l h (unbuilt line is spelled b e) = cc (sym e ∙ h)
-is_read words l h (means line is spelled b e) =
+is_read words l h (means line is spelled e) =
     let same : Ok (meant_by line) ≡ Ok l = sym e ∙ h in
-    record { line = line; is = is; spellable = spelled; built = b; means = cc }
+    record { line = line; is = is; spellable = spelled; means = cc }
 
 pub step_after-ok : (steps filled : ℕ) (line : TextLine) (l : LineStep) → lacks_feed line ≡ true → step_after steps filled line ≡ Ok l → IsStepLine steps filled line l
 unfolding step_after
@@ -140,7 +135,6 @@ step_after-ok steps filled line l lacks h =
       end = w.end;
       text = w.same ∙ (sym (join_with_byte-slice_split space t.0) ∙ ap (join_with_byte space) read.is);
       spellable = read.spellable;
-      built = read.built;
       means = read.means ∙ same;
       few = below steps room.0;
       within = rw same at (f.1);

@@ -1,5 +1,5 @@
 -- The rule that the line of a step breaks.
-use Rattle.std.proofs.Common.{◌≡◌, ◌≢◌, ℕ, ◌+◌, ◌<◌, ◌≤◌, ◌⊎◌, true, false, leb, ltb, inl, inr, List, length, refl, Ok, Err, sym, ap, subst, ◌∙◌, arith}
+use Rattle.std.proofs.Common.{◌≡◌, ◌≢◌, ℕ, ◌+◌, ◌<◌, ◌≤◌, true, false, leb, ltb, inl, inr, List, length, refl, Ok, Err, sym, ap, subst, ◌∙◌, arith}
 use Rattle.std.specs.List.{list_all}
 use Rattle.std.specs.Str.{is_utf8}
 use Rattle.std.proofs.lemmas.Bool.Decides.{nat_tests}
@@ -13,12 +13,12 @@ use Rattle.script.specs.declared.reason.ScriptReason.TheVariants as reason
 use Rattle.script.specs.Limits.{most_steps, most_filled}
 use Rattle.script.specs.Lines.{TextLine}
 use Rattle.script.specs.Spelling.{StepLine, meant_by, line_text, line_words, is_spellable, is_worded, filled_by, filled_in}
-use Rattle.script.specs.Steps.{on_ok, text_in, filling, step_in, step_after, begins_step, begins_later}
-use Rattle.script.specs.Rules.{MayBeStep, IsWorded, IsUnbuilt, BreaksStepRule}
+use Rattle.script.specs.Steps.{on_ok, text_in, filling, step_in, step_after, begins_step}
+use Rattle.script.specs.Rules.{MayBeStep, IsWorded, BreaksStepRule}
 use Rattle.script.proofs.HeadLines.{err_same}
 use Rattle.script.proofs.LineTexts.{lacks_feed}
 use Rattle.script.proofs.StepLines.{words_of_text, line_of_words}
-use Rattle.script.proofs.StepWords.{worded, Meant, unknown, later, bad_word, malformed, unbuilt, means, meant, line_begins, no_bad_word, no_bad_json, bad_json, not_built, same_step, step_in-other, malformed_fills_nothing, unbuilt_fills_nothing}
+use Rattle.script.proofs.StepWords.{worded, Meant, unknown, bad_word, malformed, means, meant, line_begins, no_bad_word, no_bad_json, bad_json, same_step, step_in-other, malformed_fills_nothing}
 
 -- ---- why a text means nothing
 
@@ -34,46 +34,27 @@ no_spellable_line_of text e line h same = no_bad_json line h (sym (text_means te
 
 pub has_bad_word : (text : List ℕ) → Meant (words_of text) → step_in (words_of text) ≡ Err reason.BadWord
     → (begins_step (words_of text) ≡ true) × ((line : StepLine) → is_worded line ≡ true → line_text line ≢ text)
-has_bad_word text (unknown b c e) h = cc (sym e ∙ h)
-has_bad_word text (later b c e) h = cc (sym e ∙ h)
+has_bad_word text (unknown b e) h = cc (sym e ∙ h)
 has_bad_word text (bad_word b e) h = (b, no_line_of text e)
 has_bad_word text (malformed line is w bad e) h = cc (sym e ∙ h)
-has_bad_word text (unbuilt line is spelled b e) h = cc (sym e ∙ h)
-has_bad_word text (means line is spelled b e) h = cc (sym e ∙ h)
+has_bad_word text (means line is spelled e) h = cc (sym e ∙ h)
 
 pub gives_bad_word : (text : List ℕ) → begins_step (words_of text) ≡ true → ((line : StepLine) → is_worded line ≡ true → line_text line ≢ text) → Meant (words_of text)
     → step_in (words_of text) ≡ Err reason.BadWord
-gives_bad_word text begins none (unknown b c e) = cc (sym b ∙ begins)
-gives_bad_word text begins none (later b c e) = cc (sym b ∙ begins)
+gives_bad_word text begins none (unknown b e) = cc (sym b ∙ begins)
 gives_bad_word text begins none (bad_word b e) = e
 gives_bad_word text begins none (malformed line is w bad e) = absurd (none line w (line_of_words text line is))
-gives_bad_word text begins none (unbuilt line is spelled b e) = absurd (none line (worded line spelled) (line_of_words text line is))
-gives_bad_word text begins none (means line is spelled b e) = absurd (none line (worded line spelled) (line_of_words text line is))
+gives_bad_word text begins none (means line is spelled e) = absurd (none line (worded line spelled) (line_of_words text line is))
 
 pub has_bad_json : (text : List ℕ) → Meant (words_of text) → step_in (words_of text) ≡ Err reason.BadJson
     → IsWorded text × ((line : StepLine) → is_spellable line ≡ true → line_text line ≢ text)
-has_bad_json text (unknown b c e) h = cc (sym e ∙ h)
-has_bad_json text (later b c e) h = cc (sym e ∙ h)
+has_bad_json text (unknown b e) h = cc (sym e ∙ h)
 has_bad_json text (bad_word b e) h = cc (sym e ∙ h)
 has_bad_json text (malformed line is w bad e) h = ((line, w, line_of_words text line is), no_spellable_line_of text e)
-has_bad_json text (unbuilt line is spelled b e) h = cc (sym e ∙ h)
-has_bad_json text (means line is spelled b e) h = cc (sym e ∙ h)
+has_bad_json text (means line is spelled e) h = cc (sym e ∙ h)
 
 pub gives_bad_json : (text : List ℕ) → IsWorded text → ((line : StepLine) → is_spellable line ≡ true → line_text line ≢ text) → step_in (words_of text) ≡ Err reason.BadJson
 gives_bad_json text p none = text_means text p.0 p.1 p.2 ∙ bad_json p.0 p.1 (λ spelled. none p.0 spelled p.2)
-
-pub is_not_built : (text : List ℕ) → Meant (words_of text) → step_in (words_of text) ≡ Err reason.NotBuilt
-    → (begins_step (words_of text) ≡ false) × (begins_later (words_of text) ≡ true) ⊎ IsUnbuilt text
-is_not_built text (unknown b c e) h = cc (sym e ∙ h)
-is_not_built text (later b c e) h = inl (b, c)
-is_not_built text (bad_word b e) h = cc (sym e ∙ h)
-is_not_built text (malformed line is w bad e) h = cc (sym e ∙ h)
-is_not_built text (unbuilt line is spelled b e) h = inr (line, spelled, line_of_words text line is, b)
-is_not_built text (means line is spelled b e) h = cc (sym e ∙ h)
-
-pub gives_not_built : (text : List ℕ) → (begins_step (words_of text) ≡ false) × (begins_later (words_of text) ≡ true) ⊎ IsUnbuilt text → step_in (words_of text) ≡ Err reason.NotBuilt
-gives_not_built text (inl p) = step_in-other (words_of text) true p.0 p.1
-gives_not_built text (inr p) = text_means text p.0 (worded p.0 p.1) p.2 ∙ not_built p.0 p.1 p.3
 
 -- ---- the rule of a line
 
@@ -108,22 +89,16 @@ over_by before line spelled may begins e most = (
 -- words that mean nothing, or fill in too much
 broken_step : (why : ScriptReason) (line : TextLine) (before : List StepLine) → MayBeStep before line → on_ok (step_in (words_of line.text)) (filling (filled_in before)) ≡ Err why
     → Meant (words_of line.text) → BreaksStepRule why before line
-broken_step why line before may h (unknown b c e) =
+broken_step why line before may h (unknown b e) =
     let P : ScriptReason → Type 0 = λ why. BreaksStepRule why before line in
-    subst P (sym (err_same reason.UnknownStep why _ refl (rw e at h))) (may, b, c)
-broken_step why line before may h (later b c e) =
-    let P : ScriptReason → Type 0 = λ why. BreaksStepRule why before line in
-    subst P (sym (err_same reason.NotBuilt why _ refl (rw e at h))) (may, inl (b, c))
+    subst P (sym (err_same reason.UnknownStep why _ refl (rw e at h))) (may, b)
 broken_step why line before may h (bad_word b e) =
     let P : ScriptReason → Type 0 = λ why. BreaksStepRule why before line in
     subst P (sym (err_same reason.BadWord why _ refl (rw e at h))) (may, b, λ step w same. absurd (no_line_of line.text e step w same))
 broken_step why line before may h (malformed spelled is w bad e) =
     let P : ScriptReason → Type 0 = λ why. BreaksStepRule why before line in
     subst P (sym (err_same reason.BadJson why _ refl (rw e at h))) (may, (spelled, w, line_of_words line.text spelled is), no_spellable_line_of line.text e)
-broken_step why line before may h (unbuilt spelled is good b e) =
-    let P : ScriptReason → Type 0 = λ why. BreaksStepRule why before line in
-    subst P (sym (err_same reason.NotBuilt why _ refl (rw e at h))) (may, inr (spelled, good, line_of_words line.text spelled is, b))
-broken_step why line before may h (means spelled is good b e) =
+broken_step why line before may h (means spelled is good e) =
     let over = overfilled (filled_in before) (meant_by spelled) why (rw e at h) in
     let P : ScriptReason → Type 0 = λ why. BreaksStepRule why before line in
     subst P (sym over.0) (over_by before line spelled may (line_begins (words_of line.text) spelled is) e over.1)
@@ -163,14 +138,11 @@ not_over before line within none over = omega arith
 
 bad_step : (line : TextLine) (before : List StepLine) → filled_in before ≤ most_filled → ((step : StepLine) → is_worded step ≡ true → line_text step ≡ line.text → most_filled < filled_in before + filled_by step)
     → begins_step (words_of line.text) ≡ true → Meant (words_of line.text) → on_ok (step_in (words_of line.text)) (filling (filled_in before)) ≡ Err reason.BadWord
-bad_step line before within over begins (unknown b c e) = cc (sym b ∙ begins)
-bad_step line before within over begins (later b c e) = cc (sym b ∙ begins)
+bad_step line before within over begins (unknown b e) = cc (sym b ∙ begins)
 bad_step line before within over begins (bad_word b e) = rw e refl
 bad_step line before within over begins (malformed spelled is w bad e) =
     absurd (not_over before spelled within (malformed_fills_nothing spelled bad) (over spelled w (line_of_words line.text spelled is)))
-bad_step line before within over begins (unbuilt spelled is good b e) =
-    absurd (not_over before spelled within (unbuilt_fills_nothing spelled b) (over spelled (worded spelled good) (line_of_words line.text spelled is)))
-bad_step line before within over begins (means spelled is good b e) = rw e (filling-over (filled_in before) (meant_by spelled) (over spelled (worded spelled good) (line_of_words line.text spelled is)))
+bad_step line before within over begins (means spelled is good e) = rw e (filling-over (filled_in before) (meant_by spelled) (over spelled (worded spelled good) (line_of_words line.text spelled is)))
 
 -- and such a line isn't read
 pub step_refused : (why : ScriptReason) (line : TextLine) (before : List StepLine) → lacks_feed line ≡ true → filled_in before ≤ most_filled → BreaksStepRule why before line
@@ -182,8 +154,7 @@ step_refused reason.TooManySteps line before lacks within b =
     let count = b.1 in
     let full : ltb (length before) most_steps ≡ false = grind (arith, nat_tests) in
     rw (b.0.0, b.0.1, full) refl
-step_refused reason.UnknownStep line before lacks within b = words_decide line before b.0 ∙ rw (step_in-other (words_of line.text) false b.1 b.2) refl
-step_refused reason.NotBuilt line before lacks within b = words_decide line before b.0 ∙ rw (gives_not_built line.text b.1) refl
+step_refused reason.UnknownStep line before lacks within b = words_decide line before b.0 ∙ rw (step_in-other (words_of line.text) b.1) refl
 step_refused reason.BadWord line before lacks within b = words_decide line before b.0 ∙ bad_step line before within b.2 b.1 (line_meant line lacks b.0.0.0)
 step_refused reason.BadJson line before lacks within b = words_decide line before b.0 ∙ rw (gives_bad_json line.text b.1 b.2) refl
 step_refused reason.BadHead line before lacks within b = absurd b

@@ -4,7 +4,6 @@ use Rattle.std.specs.List.{list_all, list_any}
 use Rattle.std.specs.Str.{bytes_eq}
 use Rattle.std.proofs.lemmas.Bool.{and_parts}
 use Rattle.std.proofs.lemmas.List.Folds.{list_all-append}
-use Rattle.endpoint_run.specs.Answers.{is_built_step}
 use Rattle.text_words.specs.Forms.{FormValues, read_front, write_forms, are_values}
 use Rattle.text_words.specs.Written.{is_text_word}
 use Rattle.text_words.proofs.ByteTests.{tested, same_from_bytes_eq, and_true}
@@ -17,8 +16,8 @@ use Rattle.script.specs.declared.step_word.StepWord.{StepWord}
 use Rattle.script.specs.declared.step_word.StepWord.TheVariants as word
 use Rattle.script.specs.Rests.{RestValue, write_rest, is_there, is_of_form, is_rest}
 use Rattle.script.specs.Table.{word_text, forms_of, rest_of, meaning, step_words}
-use Rattle.script.specs.Spelling.{StepLine, meant_by, step_of, filled_by, line_words, is_spellable, is_worded}
-use Rattle.script.specs.Steps.{word_among, step_word_in, if_built, step_with, step_from, step_by, step_in, begins_step, begins_later}
+use Rattle.script.specs.Spelling.{StepLine, meant_by, filled_by, line_words, is_spellable, is_worded}
+use Rattle.script.specs.Steps.{word_among, step_word_in, step_with, step_from, step_by, step_in, begins_step}
 use Rattle.script.proofs.RestTexts.{write_rest-texts, read_rest-written, IsThere, rest_or_bad_word}
 
 -- ---- step words
@@ -35,6 +34,7 @@ visible word.Attach = refl
 visible word.Request = refl
 visible word.Notify = refl
 visible word.Result = refl
+visible word.Object = refl
 visible word.Sequence = refl
 visible word.Fault = refl
 visible word.Cancel = refl
@@ -42,6 +42,8 @@ visible word.Report = refl
 visible word.Reports = refl
 visible word.Next = refl
 visible word.Abort = refl
+visible word.Invoke = refl
+visible word.Release = refl
 visible word.Outcome = refl
 visible word.Forget = refl
 visible word.Deliver = refl
@@ -60,6 +62,7 @@ step_word_in-text word.Attach = refl
 step_word_in-text word.Request = refl
 step_word_in-text word.Notify = refl
 step_word_in-text word.Result = refl
+step_word_in-text word.Object = refl
 step_word_in-text word.Sequence = refl
 step_word_in-text word.Fault = refl
 step_word_in-text word.Cancel = refl
@@ -67,6 +70,8 @@ step_word_in-text word.Report = refl
 step_word_in-text word.Reports = refl
 step_word_in-text word.Next = refl
 step_word_in-text word.Abort = refl
+step_word_in-text word.Invoke = refl
+step_word_in-text word.Release = refl
 step_word_in-text word.Outcome = refl
 step_word_in-text word.Forget = refl
 step_word_in-text word.Deliver = refl
@@ -134,18 +139,12 @@ step_in-words line h =
     rw (step_word_in-text line.word, read_front-written (forms_of line.word) line.values (write_rest (rest_of line.word) line.rest) p.0, read_rest-written (rest_of line.word) line.rest) refl
 
 -- those of a line whose rest is of its form
-pub step_in-good : (line : StepLine) → is_spellable line ≡ true → step_in (line_words line) ≡ if_built (meant_by line)
+pub step_in-good : (line : StepLine) → is_spellable line ≡ true → step_in (line_words line) ≡ Ok (meant_by line)
 step_in-good line h = step_in-words line (worded line h) ∙ ap (meant_if line) (well_formed line h)
 
 -- and of one whose rest isn't
 step_in-malformed : (line : StepLine) → is_worded line ≡ true → is_of_form (rest_of line.word) line.rest ≡ false → step_in (line_words line) ≡ Err reason.BadJson
 step_in-malformed line h bad = step_in-words line h ∙ ap (meant_if line) bad
-
-pub if_built-built : (l : LineStep) → is_built_step l.step ≡ true → if_built l ≡ Ok l
-if_built-built l h = rw h refl
-
-if_built-unbuilt : (l : LineStep) → is_built_step l.step ≡ false → if_built l ≡ Err reason.NotBuilt
-if_built-unbuilt l h = rw h refl
 
 -- ---- what is read is written so
 
@@ -190,12 +189,10 @@ line_or_bad_word (first ∷ words) t h =
       | inr line ↦ inr (record { line = line.line; is = ap (λ w. w ∷ words) p.2 ∙ line.is; worded = line.worded })
     ]
 
-pub step_in-other : (words : List (List ℕ)) (later : Bool) → begins_step words ≡ false → begins_later words ≡ later → step_in words ≡ Err (cond later reason.NotBuilt reason.UnknownStep)
+pub step_in-other : (words : List (List ℕ)) → begins_step words ≡ false → step_in words ≡ Err reason.UnknownStep
 unfolding step_in step_word_in
-step_in-other [] true none h = cc h
-step_in-other [] false none h = refl
-step_in-other (first ∷ words) true none h = rw (none_among step_words first none, h) refl
-step_in-other (first ∷ words) false none h = rw (none_among step_words first none, h) refl
+step_in-other [] none = refl
+step_in-other (first ∷ words) none = rw (none_among step_words first none) refl
 
 -- the words of a line begin with its step word
 begins-words : (line : StepLine) → begins_step (line_words line) ≡ true
@@ -204,26 +201,17 @@ begins-words line = begins_by step_words (word_text line.word) line.word (step_w
 
 -- ---- all that words can mean
 
--- they begin with no step word; or with one that has no step yet; a word behind their step word is bad; or they are those of a line: its rest isn't of its form,
--- its step isn't built, or they mean it
+-- they begin with no step word; a word behind their step word is bad; or they are those of a line: its rest isn't of its form, or they mean its step
 pub data Meant (words : List (List ℕ)) : Type 0 where
-  unknown : begins_step words ≡ false → begins_later words ≡ false → step_in words ≡ Err reason.UnknownStep → Meant words
-  later : begins_step words ≡ false → begins_later words ≡ true → step_in words ≡ Err reason.NotBuilt → Meant words
+  unknown : begins_step words ≡ false → step_in words ≡ Err reason.UnknownStep → Meant words
   bad_word : begins_step words ≡ true → step_in words ≡ Err reason.BadWord → Meant words
   malformed : (line : StepLine) → words ≡ line_words line → is_worded line ≡ true → is_of_form (rest_of line.word) line.rest ≡ false → step_in words ≡ Err reason.BadJson → Meant words
-  unbuilt : (line : StepLine) → words ≡ line_words line → is_spellable line ≡ true → is_built_step (step_of line) ≡ false → step_in words ≡ Err reason.NotBuilt → Meant words
-  means : (line : StepLine) → words ≡ line_words line → is_spellable line ≡ true → is_built_step (step_of line) ≡ true → step_in words ≡ Ok (meant_by line) → Meant words
+  means : (line : StepLine) → words ≡ line_words line → is_spellable line ≡ true → step_in words ≡ Ok (meant_by line) → Meant words
 
 meant_line : (words : List (List ℕ)) → IsLine words → Meant words
 meant_line words p = elim (tested (is_of_form (rest_of p.line.word) p.line.rest)) [
   | inr bad ↦ malformed p.line p.is p.worded bad (ap step_in p.is ∙ step_in-malformed p.line p.worded bad)
-  | inl good ↦
-      let spelled = spellable p.line p.worded good in
-      let read = ap step_in p.is ∙ step_in-good p.line spelled in
-      elim (tested (is_built_step (step_of p.line))) [
-        | inr e ↦ unbuilt p.line p.is spelled e (read ∙ if_built-unbuilt (meant_by p.line) e)
-        | inl e ↦ means p.line p.is spelled e (read ∙ if_built-built (meant_by p.line) e)
-      ]
+  | inl good ↦ let spelled = spellable p.line p.worded good in means p.line p.is spelled (ap step_in p.is ∙ step_in-good p.line spelled)
 ]
 
 pub meant : (words : List (List ℕ)) → list_all is_text_word words ≡ true → Meant words
@@ -232,10 +220,7 @@ meant words t = elim (tested (begins_step words)) [
     | inl bad ↦ bad_word begins bad
     | inr line ↦ meant_line words line
   ]
-  | inr none ↦ elim (tested (begins_later words)) [
-    | inl e ↦ later none e (step_in-other words true none e)
-    | inr e ↦ unknown none e (step_in-other words false none e)
-  ]
+  | inr none ↦ unknown none (step_in-other words none)
 ]
 
 -- a line that words are
@@ -246,22 +231,12 @@ line_begins words line e = ap begins_step e ∙ begins-words line
 pub no_bad_word : (line : StepLine) → is_worded line ≡ true → step_in (line_words line) ≢ Err reason.BadWord
 no_bad_word line h e = elim (tested (is_of_form (rest_of line.word) line.rest)) [
   | inr bad ↦ let is = step_in-malformed line h bad in cc
-  | inl good ↦
-      let is = step_in-good line (spellable line h good) in
-      elim (tested (is_built_step (step_of line))) [
-        | inr b ↦ let no = if_built-unbuilt (meant_by line) b in cc
-        | inl b ↦ let yes = if_built-built (meant_by line) b in cc
-      ]
+  | inl good ↦ let is = step_in-good line (spellable line h good) in cc
 ]
 
 -- where its rest is of its form, it isn't refused for it
 pub no_bad_json : (line : StepLine) → is_spellable line ≡ true → step_in (line_words line) ≢ Err reason.BadJson
-no_bad_json line h e =
-    let is = step_in-good line h in
-    elim (tested (is_built_step (step_of line))) [
-      | inr b ↦ let no = if_built-unbuilt (meant_by line) b in cc
-      | inl b ↦ let yes = if_built-built (meant_by line) b in cc
-    ]
+no_bad_json line h e = cc (sym (step_in-good line h) ∙ e)
 
 -- where its rest isn't, it is
 pub bad_json : (line : StepLine) → is_worded line ≡ true → (is_spellable line ≡ true → ⊥) → step_in (line_words line) ≡ Err reason.BadJson
@@ -270,25 +245,13 @@ bad_json line h none = elim (tested (is_of_form (rest_of line.word) line.rest)) 
   | inl good ↦ absurd (none (spellable line h good))
 ]
 
--- and where its step isn't built, for that
-pub not_built : (line : StepLine) → is_spellable line ≡ true → is_built_step (step_of line) ≡ false → step_in (line_words line) ≡ Err reason.NotBuilt
-not_built line h e = step_in-good line h ∙ if_built-unbuilt (meant_by line) e
-
-pub step_in-built : (line : StepLine) → is_spellable line ≡ true → is_built_step (step_of line) ≡ true → step_in (line_words line) ≡ Ok (meant_by line)
-step_in-built line h e = step_in-good line h ∙ if_built-built (meant_by line) e
-
 -- a line whose words mean a step means it
 pub same_step : (line : StepLine) (l : LineStep) → is_worded line ≡ true → step_in (line_words line) ≡ Ok l → meant_by line ≡ l
 same_step line l h e = elim (tested (is_of_form (rest_of line.word) line.rest)) [
   | inr bad ↦ let is = step_in-malformed line h bad in cc
   | inl good ↦
-      let is = step_in-good line (spellable line h good) in
-      elim (tested (is_built_step (step_of line))) [
-        | inr b ↦ let no = if_built-unbuilt (meant_by line) b in cc
-        | inl b ↦
-            let same : Ok (meant_by line) ≡ Ok l = sym (is ∙ if_built-built (meant_by line) b) ∙ e in
-            cc
-      ]
+      let same : Ok (meant_by line) ≡ Ok l = sym (step_in-good line (spellable line h good)) ∙ e in
+      cc
 ]
 
 -- ---- what lines fill in that mean nothing
@@ -299,10 +262,3 @@ malformed_fills w xs x h = refl
 
 pub malformed_fills_nothing : (line : StepLine) → is_of_form (rest_of line.word) line.rest ≡ false → filled_by line ≡ 0
 malformed_fills_nothing line h = malformed_fills line.word line.values line.rest h
-
-unbuilt_fills : (w : StepWord) (xs : FormValues (forms_of w)) (x : RestValue (rest_of w)) → is_built_step (meaning w xs x).step ≡ false → (meaning w xs x).filled ≡ 0
-unbuilt_fills word.Fill xs x h = cc h
-unbuilt_fills w xs x h = refl
-
-pub unbuilt_fills_nothing : (line : StepLine) → is_built_step (step_of line) ≡ false → filled_by line ≡ 0
-unbuilt_fills_nothing line h = unbuilt_fills line.word line.values line.rest h

@@ -8,7 +8,6 @@ script_reason_number reason.BadHead = 90
 script_reason_number reason.UnknownStep = 91
 script_reason_number reason.BadWord = 92
 script_reason_number reason.BadJson = 93
-script_reason_number reason.NotBuilt = 94
 script_reason_number reason.NotUtf8 = 95
 script_reason_number reason.TooManySteps = 96
 script_reason_number reason.NoLineEnd = 97

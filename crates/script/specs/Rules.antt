@@ -1,15 +1,14 @@
 -- The rules that the lines of a script keep, and the first line that breaks one.
-use Rattle.std.specs.Prelude.{◌≡◌, ◌≢◌, ◌⊎◌, ℕ, ◌+◌, ◌<◌, List, [], ◌∷◌, ◌++◌, true, false, length, map}
+use Rattle.std.specs.Prelude.{◌≡◌, ◌≢◌, ℕ, ◌+◌, ◌<◌, List, [], ◌∷◌, ◌++◌, true, false, length, map}
 use Rattle.std.specs.Str.{is_utf8}
 use Rattle.mux_run.specs.Run.{Terms}
-use Rattle.endpoint_run.specs.Answers.{is_built_step}
 use Rattle.text_words.specs.Reading.{words_of}
 use Rattle.script.specs.declared.reason.ScriptReason.{ScriptReason}
 use Rattle.script.specs.declared.reason.ScriptReason.TheVariants as reason
 use Rattle.script.specs.Limits.{most_steps, most_filled}
 use Rattle.script.specs.Lines.{TextLine, whole_line}
-use Rattle.script.specs.Spelling.{StepLine, AreTerms, AreScripted, head_lines, script_lines, line_text, is_spellable, is_worded, step_of, filled_by, filled_in}
-use Rattle.script.specs.Steps.{begins_step, begins_later}
+use Rattle.script.specs.Spelling.{StepLine, AreTerms, AreScripted, head_lines, script_lines, line_text, is_spellable, is_worded, filled_by, filled_in}
+use Rattle.script.specs.Steps.{begins_step}
 
 -- these texts are the first lines of some head
 pub record BeginsHead (texts : List (List ℕ)) : Type 0 where
@@ -51,19 +50,13 @@ MayBeStep before line = IsWholeText line × (length before < most_steps)
 abbrev pub IsWorded : List ℕ → Type 0
 IsWorded text = (step : StepLine) × (is_worded step ≡ true) × (line_text step ≡ text)
 
--- it is the line of a step that isn't built
-abbrev pub IsUnbuilt : List ℕ → Type 0
-IsUnbuilt text = (step : StepLine) × (is_spellable step ≡ true) × (line_text step ≡ text) × (is_built_step (step_of step) ≡ false)
-
--- such a line begins with a step word, one that has a step; its words are of their forms, and so is the rest of it; its step is built, and fills in no more
--- bytes than are left; for each reason, which of these rules a line breaks
+-- such a line begins with a step word; its words are of their forms, and so is the rest of it; and it fills in no more bytes than are left; for each
+-- reason, which of these rules a line breaks
 abbrev pub BreaksStepRule : ScriptReason → (before : List StepLine) → TextLine → Type 0
 BreaksStepRule reason.NotUtf8 before line = is_utf8 line.text ≡ false
 BreaksStepRule reason.NoLineEnd before line = (is_utf8 line.text ≡ true) × (line.has_end ≡ false)
 BreaksStepRule reason.TooManySteps before line = IsWholeText line × (length before ≡ most_steps)
-BreaksStepRule reason.UnknownStep before line = MayBeStep before line × (begins_step (words_of line.text) ≡ false) × (begins_later (words_of line.text) ≡ false)
-BreaksStepRule reason.NotBuilt before line = MayBeStep before line
-    × ((begins_step (words_of line.text) ≡ false) × (begins_later (words_of line.text) ≡ true) ⊎ IsUnbuilt line.text)
+BreaksStepRule reason.UnknownStep before line = MayBeStep before line × (begins_step (words_of line.text) ≡ false)
 BreaksStepRule reason.BadWord before line = MayBeStep before line × (begins_step (words_of line.text) ≡ true)
     × ((step : StepLine) → is_worded step ≡ true → line_text step ≡ line.text → most_filled < filled_in before + filled_by step)
 BreaksStepRule reason.BadJson before line = MayBeStep before line × IsWorded line.text

@@ -6,7 +6,6 @@ use Rattle.wire_base.specs.declared.frame.Version.TheVariants as version
 use Rattle.mux_run.specs.declared.steps.Side.{Side}
 use Rattle.mux_run.specs.declared.steps.Side.TheVariants.{A, B}
 use Rattle.endpoint_run.specs.declared.steps.Step.{Step}
-use Rattle.endpoint_run.specs.Answers.{are_built_steps}
 use Rattle.mux_run.specs.Run.{Terms}
 use Rattle.text_words.specs.Bytes.{space}
 use Rattle.text_words.specs.Written.{side_word, bytes_word, line_feed, is_nonce, nonce_size}
@@ -118,6 +117,5 @@ is_worded line = are_values (forms_of line.word) line.values && is_there (rest_o
 -- lines that stand in a script
 pub record AreScripted (lines : List StepLine) : Type 0 where
   pub spellable : list_all is_spellable lines ≡ true
-  pub built : are_built_steps (steps_of lines) ≡ true
   pub few : length lines ≤ most_steps
   pub within : filled_in lines ≤ most_filled

@@ -6,7 +6,6 @@ use Rattle.std.specs.Str.{is_utf8, bytes_eq}
 use Rattle.mux_run.specs.declared.steps.Side.{Side}
 use Rattle.wire_base.specs.declared.frame.Version.{Version}
 use Rattle.wire_base.specs.declared.frame.Version.TheVariants as version
-use Rattle.endpoint_run.specs.Answers.{is_built_step}
 use Rattle.text_words.specs.Forms.{FormValues, read_front}
 use Rattle.text_words.specs.Reading.{words_of, nonce_in}
 use Rattle.text_words.specs.Written.{side_word}
@@ -17,7 +16,7 @@ use Rattle.script.specs.declared.step_word.StepWord.{StepWord}
 use Rattle.script.specs.Limits.{most_steps, most_filled}
 use Rattle.script.specs.Lines.{TextLine}
 use Rattle.script.specs.Rests.{RestValue, read_rest}
-use Rattle.script.specs.Table.{word_text, step_words, later_words, forms_of, rest_of, meaning}
+use Rattle.script.specs.Table.{word_text, step_words, forms_of, rest_of, meaning}
 
 -- the first of these step words that is written so
 abbrev pub word_among : List StepWord → List ℕ → Option StepWord
@@ -28,17 +27,9 @@ word_among (w ∷ ws) text = if bytes_eq text (word_text w) then Some w else wor
 unfoldable pub step_word_in : List ℕ → Option StepWord
 step_word_in text = word_among step_words text
 
--- whether a step word of the format that has no step yet is written so
-abbrev pub is_later : List ℕ → Bool
-is_later text = list_any (bytes_eq text) later_words
-
--- a line whose step is built
-abbrev pub if_built : LineStep → Result LineStep ScriptReason
-if_built line = if is_built_step line.step then Ok line else Err reason.NotBuilt
-
 -- what the words behind a step word mean, with the rest of the line
 abbrev pub step_with : (w : StepWord) → FormValues (forms_of w) → Result (RestValue (rest_of w)) ScriptReason → Result LineStep ScriptReason
-step_with w values (Ok rest) = if_built (meaning w values rest)
+step_with w values (Ok rest) = Ok (meaning w values rest)
 step_with w values (Err why) = Err why
 
 abbrev pub step_from : (w : StepWord) → Option (FormValues (forms_of w) × List (List ℕ)) → Result LineStep ScriptReason
@@ -50,24 +41,19 @@ unfoldable pub step_by : StepWord → List (List ℕ) → Result LineStep Script
 step_by w words = step_from w (read_front (forms_of w) words)
 
 -- the same, where the first word is one
-abbrev pub step_behind : (first : List ℕ) → Option StepWord → List (List ℕ) → Result LineStep ScriptReason
-step_behind first (Some w) words = step_by w words
-step_behind first None words = if is_later first then Err reason.NotBuilt else Err reason.UnknownStep
+abbrev pub step_behind : Option StepWord → List (List ℕ) → Result LineStep ScriptReason
+step_behind (Some w) words = step_by w words
+step_behind None words = Err reason.UnknownStep
 
 -- what a line's words mean, or why they mean nothing
 unfoldable pub step_in : List (List ℕ) → Result LineStep ScriptReason
 step_in [] = Err reason.UnknownStep
-step_in (first ∷ words) = step_behind first (step_word_in first) words
+step_in (first ∷ words) = step_behind (step_word_in first) words
 
--- the first word is a step word that has a step
+-- the first word is a step word
 abbrev pub begins_step : List (List ℕ) → Bool
 begins_step [] = false
 begins_step (first ∷ words) = list_any (λ w. bytes_eq first (word_text w)) step_words
-
--- the first word is a step word that has none yet
-abbrev pub begins_later : List (List ℕ) → Bool
-begins_later [] = false
-begins_later (first ∷ words) = is_later first
 
 -- the next answer, behind an answer without a fault
 abbrev pub on_ok : {X Y : Type 0} → Result X ScriptReason → (X → Result Y ScriptReason) → Result Y ScriptReason

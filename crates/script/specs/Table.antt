@@ -13,7 +13,7 @@ use Rattle.endpoint_items.specs.declared.call.Call.{Call}
 use Rattle.endpoint_items.specs.declared.call.Call.TheVariants as call
 use Rattle.endpoint_run.specs.declared.steps.Step.{Step}
 use Rattle.endpoint_run.specs.declared.steps.Step.TheVariants as step
-use Rattle.text_words.specs.Forms.{Form, side, channel, name, number, limited, bytes, byte, count, framing, encoding, expect, method, signed, json_id, FormValues}
+use Rattle.text_words.specs.Forms.{Form, side, channel, name, number, limited, bytes, byte, count, framing, encoding, expect, owner, method, signed, json_id, FormValues}
 use Rattle.text_words.specs.Json.{json_in, json_id_in, string_in, array_in, arguments_in}
 use Rattle.text_words.specs.Written.{key_at, signed_value}
 use Rattle.script.specs.declared.step_word.StepWord.{StepWord}
@@ -35,6 +35,7 @@ word_text word.Attach = codes "attach"
 word_text word.Request = codes "request"
 word_text word.Notify = codes "notify"
 word_text word.Result = codes "result"
+word_text word.Object = codes "object"
 word_text word.Sequence = codes "sequence"
 word_text word.Fault = codes "fault"
 word_text word.Cancel = codes "cancel"
@@ -42,6 +43,8 @@ word_text word.Report = codes "report"
 word_text word.Reports = codes "reports"
 word_text word.Next = codes "next"
 word_text word.Abort = codes "abort"
+word_text word.Invoke = codes "invoke"
+word_text word.Release = codes "release"
 word_text word.Outcome = codes "outcome"
 word_text word.Forget = codes "forget"
 word_text word.Deliver = codes "deliver"
@@ -60,6 +63,7 @@ forms_of word.Attach = side ∷ channel ∷ framing ∷ encoding ∷ []
 forms_of word.Request = side ∷ channel ∷ method ∷ expect ∷ []
 forms_of word.Notify = side ∷ channel ∷ method ∷ []
 forms_of word.Result = side ∷ channel ∷ json_id ∷ []
+forms_of word.Object = side ∷ channel ∷ json_id ∷ number ∷ []
 forms_of word.Sequence = side ∷ channel ∷ json_id ∷ number ∷ number ∷ []
 forms_of word.Fault = side ∷ channel ∷ json_id ∷ signed ∷ []
 forms_of word.Cancel = side ∷ channel ∷ number ∷ []
@@ -67,6 +71,8 @@ forms_of word.Report = side ∷ channel ∷ json_id ∷ json_id ∷ []
 forms_of word.Reports = side ∷ channel ∷ number ∷ []
 forms_of word.Next = side ∷ channel ∷ number ∷ []
 forms_of word.Abort = side ∷ channel ∷ number ∷ []
+forms_of word.Invoke = side ∷ channel ∷ number ∷ method ∷ expect ∷ []
+forms_of word.Release = side ∷ channel ∷ owner ∷ number ∷ []
 forms_of word.Outcome = side ∷ channel ∷ number ∷ []
 forms_of word.Forget = side ∷ channel ∷ number ∷ []
 forms_of word.Deliver = side ∷ count ∷ []
@@ -85,6 +91,7 @@ rest_of word.Attach = nothing
 rest_of word.Request = arguments
 rest_of word.Notify = arguments
 rest_of word.Result = json
+rest_of word.Object = nothing
 rest_of word.Sequence = array
 rest_of word.Fault = string
 rest_of word.Cancel = nothing
@@ -92,6 +99,8 @@ rest_of word.Report = json
 rest_of word.Reports = nothing
 rest_of word.Next = nothing
 rest_of word.Abort = nothing
+rest_of word.Invoke = arguments
+rest_of word.Release = nothing
 rest_of word.Outcome = nothing
 rest_of word.Forget = nothing
 rest_of word.Deliver = nothing
@@ -142,6 +151,7 @@ meaning word.Attach (s, (c, (f, (e, end)))) rest = calls s (call.Attach (key_at 
 meaning word.Request (s, (c, (m, (e, end)))) text = calls s (call.Request (key_at s c) m (arguments_said text) e)
 meaning word.Notify (s, (c, (m, end))) text = calls s (call.Notify (key_at s c) m (arguments_said text))
 meaning word.Result (s, (c, (id, end))) text = calls s (call.Respond (key_at s c) (id_said id) (answer.Value (json_said text)))
+meaning word.Object (s, (c, (id, (n, end)))) rest = calls s (call.Respond (key_at s c) (id_said id) (answer.Object n))
 meaning word.Sequence (s, (c, (id, (page, (first, end))))) text = calls s (call.Respond (key_at s c) (id_said id) (answer.Sequence (array_said text) page first))
 meaning word.Fault (s, (c, (id, (code, end)))) text = calls s (call.Respond (key_at s c) (id_said id) (answer.Fault (signed_value code) (string_said text) None))
 meaning word.Cancel (s, (c, (n, end))) rest = calls s (call.Cancel (key_at s c) n)
@@ -149,17 +159,15 @@ meaning word.Report (s, (c, (id, (token, end)))) text = calls s (call.Report (ke
 meaning word.Reports (s, (c, (n, end))) rest = calls s (call.TakeReport (key_at s c) n)
 meaning word.Next (s, (c, (n, end))) rest = calls s (call.Next (key_at s c) n)
 meaning word.Abort (s, (c, (n, end))) rest = calls s (call.Abort (key_at s c) n)
+meaning word.Invoke (s, (c, (h, (m, (e, end))))) text = calls s (call.Invoke (key_at s c) h m (arguments_said text) e)
+meaning word.Release (s, (c, (own, (n, end)))) rest = calls s (call.Release (key_at s c) (record { number = n; own = own }))
 meaning word.Outcome (s, (c, (n, end))) rest = calls s (call.Outcome (key_at s c) n)
 meaning word.Forget (s, (c, (n, end))) rest = calls s (call.Forget (key_at s c) n)
 meaning word.Deliver (s, (n, end)) rest = plain (step.Deliver s n)
 meaning word.End (s, end) rest = plain (step.End s)
 
--- all step words that have a step
+-- all step words
 abbrev pub step_words : List StepWord
 step_words = word.Offer ∷ word.Accept ∷ word.Write ∷ word.Fill ∷ word.Read ∷ word.Complete ∷ word.Terminate ∷ word.Attach ∷ word.Request
-    ∷ word.Notify ∷ word.Result ∷ word.Sequence ∷ word.Fault ∷ word.Cancel ∷ word.Report ∷ word.Reports ∷ word.Next ∷ word.Abort
-    ∷ word.Outcome ∷ word.Forget ∷ word.Deliver ∷ word.End ∷ []
-
--- the step words of the format that have none yet
-abbrev pub later_words : List (List ℕ)
-later_words = codes "object" ∷ codes "invoke" ∷ codes "release" ∷ []
+    ∷ word.Notify ∷ word.Result ∷ word.Object ∷ word.Sequence ∷ word.Fault ∷ word.Cancel ∷ word.Report ∷ word.Reports ∷ word.Next ∷ word.Abort
+    ∷ word.Invoke ∷ word.Release ∷ word.Outcome ∷ word.Forget ∷ word.Deliver ∷ word.End ∷ []

@@ -1,15 +1,15 @@
 //! What holds of scripts and their texts.
 
-ghost use Rattle.std.specs.Prelude.{◌≡◌, ◌≢◌, ◌≤◌, ◌↔◌, ◌+◌, ◌⊎◌, ◌++◌, ℕ, List, true, false, length};
+ghost use Rattle.std.specs.Prelude.{◌≡◌, ◌≢◌, ◌≤◌, ◌↔◌, ◌+◌, ◌⊎◌, ◌++◌, ℕ, List, true, length};
 ghost use Rattle.endpoint_run.specs.declared.steps.Step.{Step};
 ghost use Rattle.mux_run.specs.Run.{Terms};
 ghost use Rattle.script.specs.declared.reason.ScriptReason.{ScriptReason};
 ghost use Rattle.script.specs.declared.reason.ScriptReason.TheVariants as reason;
 ghost use Rattle.script.specs.Found.{script_in, steps_from, reads, breaks, IsScriptOf};
 ghost use Rattle.script.specs.Lines.{lines_of};
-ghost use Rattle.script.specs.Rules.{IsHeadRefused, IsStepRefused, IsUnbuilt, IsWorded};
+ghost use Rattle.script.specs.Rules.{IsHeadRefused, IsStepRefused, IsWorded};
 ghost use Rattle.script.specs.Spelling.{StepLine, AreTerms, AreScripted, is_spellable, is_worded, line_text, head_lines, head_text, script_text, steps_of, filled_in};
-ghost use Rattle.script.specs.Steps.{step_in, begins_step, begins_later};
+ghost use Rattle.script.specs.Steps.{step_in, begins_step};
 ghost use Rattle.text_words.specs.Reading.{words_of};
 ghost use Rattle.text_words.specs.Written.{is_line_text};
 
@@ -33,8 +33,8 @@ pub fn script_refuses_the_first()
         → (number ≤ 4) × ((terms : Terms) (rest : List ℕ) → AreTerms terms → bytes ≢ head_text terms ++ rest) }
 {}
 
-/// A line has a bad word exactly if it begins with a step word that has a step and is the text of none whose words are of
-/// their forms, whatever the rest of it is.
+/// A line has a bad word exactly if it begins with a step word and is the text of no step whose words are of their forms,
+/// whatever the rest of it is.
 pub fn bad_words_are_of_no_step()
     ensures { (text : List ℕ) → is_line_text text ≡ true → (step_in (words_of text) ≡ Err reason.BadWord)
         ↔ ((begins_step (words_of text) ≡ true) × ((line : StepLine) → is_worded line ≡ true → line_text line ≢ text)) }
@@ -44,11 +44,4 @@ pub fn bad_words_are_of_no_step()
 pub fn bad_rests_are_of_no_step()
     ensures { (text : List ℕ) → is_line_text text ≡ true → (step_in (words_of text) ≡ Err reason.BadJson)
         ↔ (IsWorded text × ((line : StepLine) → is_spellable line ≡ true → line_text line ≢ text)) }
-{}
-
-/// A line isn't built exactly if it begins with a step word that has no step yet, or is the text of a step that isn't
-/// built.
-pub fn unbuilt_lines_are_of_no_built_step()
-    ensures { (text : List ℕ) → is_line_text text ≡ true → (step_in (words_of text) ≡ Err reason.NotBuilt)
-        ↔ ((begins_step (words_of text) ≡ false) × (begins_later (words_of text) ≡ true) ⊎ IsUnbuilt text) }
 {}

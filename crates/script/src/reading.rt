@@ -1,7 +1,6 @@
 //! Scripts from their bytes.
 
 ghost use Rattle.std.specs.Prelude.{◌≡◌, ◌+◌, ◌<◌, ◌≤◌, List, [], true, IfOk, OnOk};
-ghost use Rattle.endpoint_run.specs.Answers.{are_built_steps};
 ghost use Rattle.mux_run.specs.Run.{Terms, terms_of};
 ghost use Rattle.script.specs.Found.{script_in, version_from, nonces_from, nonce_b_from, steps_from, reads, IsScriptOf};
 ghost use Rattle.script.specs.Given.{Gives, Answers, line_seen, script_seen};
@@ -48,9 +47,6 @@ pub fn read_script(alloc: Global, bytes: &[u8]) -> Result<Script, ScriptFault>
 
     // What is read is the text of a script that is written so.
     ensures text { IfOk result (λ s. IsScriptOf bytes.now (terms_of s.version s.nonces) s.steps) }
-
-    // Each of its steps is built.
-    ensures built { IfOk result (λ s. are_built_steps s.steps ≡ true) }
 
     // What is written so is read, unless memory runs out.
     ensures only { (terms : Terms) (lines : List StepLine) → AreTerms terms → AreScripted lines → bytes.now ≡ script_text terms lines

@@ -14,9 +14,6 @@ pub enum ScriptReason {
     BadWord,
     /// 93: behind words of their forms the rest of the line isn't the JSON text that it has to be.
     BadJson,
-    /// 94: the line's first word is a step word of the format that the program has no step for yet, or its step isn't
-    /// built.
-    NotBuilt,
     /// 95: the line isn't UTF-8.
     NotUtf8,
     /// 96: the script has more than 100,000 steps.
@@ -35,7 +32,6 @@ impl ScriptReason {
             ScriptReason::UnknownStep => 91,
             ScriptReason::BadWord => 92,
             ScriptReason::BadJson => 93,
-            ScriptReason::NotBuilt => 94,
             ScriptReason::NotUtf8 => 95,
             ScriptReason::TooManySteps => 96,
             ScriptReason::NoLineEnd => 97,

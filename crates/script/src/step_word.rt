@@ -1,7 +1,7 @@
 //! The words that steps begin with.
 
 ghost use Rattle.std.specs.Prelude.{◌≡◌};
-ghost use Rattle.script.specs.Steps.{step_word_in, is_later};
+ghost use Rattle.script.specs.Steps.{step_word_in};
 
 /// The first word of a step.
 #[derive(Clone, Copy, Debug, PartialEq, Eq)]
@@ -17,6 +17,7 @@ pub enum StepWord {
     Request,
     Notify,
     Result,
+    Object,
     Sequence,
     Fault,
     Cancel,
@@ -24,6 +25,8 @@ pub enum StepWord {
     Reports,
     Next,
     Abort,
+    Invoke,
+    Release,
     Outcome,
     Forget,
     Deliver,
@@ -46,6 +49,7 @@ pub fn step_word(word: &str) -> Option<StepWord>
         "request" => Some(StepWord::Request),
         "notify" => Some(StepWord::Notify),
         "result" => Some(StepWord::Result),
+        "object" => Some(StepWord::Object),
         "sequence" => Some(StepWord::Sequence),
         "fault" => Some(StepWord::Fault),
         "cancel" => Some(StepWord::Cancel),
@@ -53,20 +57,12 @@ pub fn step_word(word: &str) -> Option<StepWord>
         "reports" => Some(StepWord::Reports),
         "next" => Some(StepWord::Next),
         "abort" => Some(StepWord::Abort),
+        "invoke" => Some(StepWord::Invoke),
+        "release" => Some(StepWord::Release),
         "outcome" => Some(StepWord::Outcome),
         "forget" => Some(StepWord::Forget),
         "deliver" => Some(StepWord::Deliver),
         "end" => Some(StepWord::End),
         _ => None,
-    }
-}
-
-/// Whether the format has this step word and the program no step for it yet.
-pub fn is_later(word: &str) -> bool
-    ensures { result ≡ is_later word.now }
-{
-    match word {
-        "object" | "invoke" | "release" => true,
-        _ => false,
     }
 }

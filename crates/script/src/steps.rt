@@ -5,16 +5,15 @@ ghost use Rattle.script.specs.Given.{Gives};
 ghost use Rattle.script.specs.Table.{calls, mux_calls, plain};
 ghost use Rattle.script.specs.Steps.{step_word_in, step_by, step_behind, step_in};
 
-use crate::built::built;
 use crate::fault::LineFault;
 use crate::line_step::LineStep;
 use crate::reason::ScriptReason;
 use crate::rest;
-use crate::step_word::{StepWord, is_later, step_word};
+use crate::step_word::{StepWord, step_word};
 use endpoint_items::Call;
 use endpoint_run::Step;
 use mux_run::Side;
-use rpc_end::{Answer, Terms};
+use rpc_end::{Answer, HandleKey, Terms};
 use std::alloc::Global;
 use wire_base::{Blob, OutOfMemory};
 
@@ -171,7 +170,7 @@ fn request(alloc: Global, words: &[&str]) -> Result<LineStep, LineFault>
     let method = text_words::method(alloc, method)?.ok_or(BAD_WORD)?;
     let expect = text_words::expect(expect).ok_or(BAD_WORD)?;
     let args = rest::arguments(alloc, rest)?;
-    built(calls(side, Call::Request(channel.key(side), method, args, expect)))
+    Ok(calls(side, Call::Request(channel.key(side), method, args, expect)))
 }
 
 #[tactic(auto, unfolding(crate::specs::Steps::step_by))]
@@ -185,7 +184,7 @@ fn notify(alloc: Global, words: &[&str]) -> Result<LineStep, LineFault>
     let channel = text_words::channel(channel).ok_or(BAD_WORD)?;
     let method = text_words::method(alloc, method)?.ok_or(BAD_WORD)?;
     let args = rest::arguments(alloc, rest)?;
-    built(calls(side, Call::Notify(channel.key(side), method, args)))
+    Ok(calls(side, Call::Notify(channel.key(side), method, args)))
 }
 
 #[tactic(auto, unfolding(crate::specs::Steps::step_by))]
@@ -200,6 +199,21 @@ fn result(alloc: Global, words: &[&str]) -> Result<LineStep, LineFault>
     let id = text_words::json_id(alloc, id)?.ok_or(BAD_WORD)?;
     let value = rest::json(alloc, rest)?;
     let answer = Answer::Value(value);
+    Ok(calls(side, Call::Respond(channel.key(side), id, answer)))
+}
+
+#[tactic(auto, unfolding(crate::specs::Steps::step_by))]
+fn object(alloc: Global, words: &[&str]) -> Result<LineStep, LineFault>
+    ensures { Gives (λ s. s) result (step_by StepWord.Object (map (λ w. w.now) words.now)) }
+{
+    let [side, channel, id, object] = words else {
+        return Err(BAD_WORD);
+    };
+    let side = text_words::side(side).ok_or(BAD_WORD)?;
+    let channel = text_words::channel(channel).ok_or(BAD_WORD)?;
+    let id = text_words::json_id(alloc, id)?.ok_or(BAD_WORD)?;
+    let object = u64::from(text_words::number(object).ok_or(BAD_WORD)?);
+    let answer = Answer::Object(object);
     Ok(calls(side, Call::Respond(channel.key(side), id, answer)))
 }
 
@@ -304,6 +318,40 @@ fn abort(words: &[&str]) -> Result<LineStep, LineFault>
 }
 
 #[tactic(auto, unfolding(crate::specs::Steps::step_by))]
+fn invoke(alloc: Global, words: &[&str]) -> Result<LineStep, LineFault>
+    ensures { Gives (λ s. s) result (step_by StepWord.Invoke (map (λ w. w.now) words.now)) }
+{
+    let [side, channel, handle, method, expect, rest @ ..] = words else {
+        return Err(BAD_WORD);
+    };
+    let side = text_words::side(side).ok_or(BAD_WORD)?;
+    let channel = text_words::channel(channel).ok_or(BAD_WORD)?;
+    let handle = u64::from(text_words::number(handle).ok_or(BAD_WORD)?);
+    let method = text_words::method(alloc, method)?.ok_or(BAD_WORD)?;
+    let expect = text_words::expect(expect).ok_or(BAD_WORD)?;
+    let args = rest::arguments(alloc, rest)?;
+    Ok(calls(
+        side,
+        Call::Invoke(channel.key(side), handle, method, args, expect),
+    ))
+}
+
+#[tactic(auto, unfolding(crate::specs::Steps::step_by))]
+fn release(words: &[&str]) -> Result<LineStep, LineFault>
+    ensures { Gives (λ s. s) result (step_by StepWord.Release (map (λ w. w.now) words.now)) }
+{
+    let [side, channel, owner, number] = words else {
+        return Err(BAD_WORD);
+    };
+    let side = text_words::side(side).ok_or(BAD_WORD)?;
+    let channel = text_words::channel(channel).ok_or(BAD_WORD)?;
+    let own = text_words::owner(owner).ok_or(BAD_WORD)?;
+    let number = u64::from(text_words::number(number).ok_or(BAD_WORD)?);
+    let handle = HandleKey { number, own };
+    Ok(calls(side, Call::Release(channel.key(side), handle)))
+}
+
+#[tactic(auto, unfolding(crate::specs::Steps::step_by))]
 fn outcome(words: &[&str]) -> Result<LineStep, LineFault>
     ensures { Gives (λ s. s) result (step_by StepWord.Outcome (map (λ w. w.now) words.now)) }
 {
@@ -368,6 +416,7 @@ fn step_by(alloc: Global, word: StepWord, words: &[&str]) -> Result<LineStep, Li
         StepWord::Request => request(alloc, words),
         StepWord::Notify => notify(alloc, words),
         StepWord::Result => result(alloc, words),
+        StepWord::Object => object(alloc, words),
         StepWord::Sequence => sequence(alloc, words),
         StepWord::Fault => fault(alloc, words),
         StepWord::Cancel => cancel(words),
@@ -375,6 +424,8 @@ fn step_by(alloc: Global, word: StepWord, words: &[&str]) -> Result<LineStep, Li
         StepWord::Reports => reports(words),
         StepWord::Next => next(words),
         StepWord::Abort => abort(words),
+        StepWord::Invoke => invoke(alloc, words),
+        StepWord::Release => release(words),
         StepWord::Outcome => outcome(words),
         StepWord::Forget => forget(words),
         StepWord::Deliver => deliver(words),
@@ -384,11 +435,10 @@ fn step_by(alloc: Global, word: StepWord, words: &[&str]) -> Result<LineStep, Li
 
 /// What a first word and the words behind it mean.
 fn step_behind(alloc: Global, first: &str, words: &[&str]) -> Result<LineStep, LineFault>
-    ensures { Gives (λ s. s) result (step_behind first.now (step_word_in first.now) (map (λ w. w.now) words.now)) }
+    ensures { Gives (λ s. s) result (step_behind (step_word_in first.now) (map (λ w. w.now) words.now)) }
 {
     match step_word(first) {
         Some(word) => step_by(alloc, word, words),
-        None if is_later(first) => Err(LineFault::Refused(ScriptReason::NotBuilt)),
         None => Err(LineFault::Refused(ScriptReason::UnknownStep)),
     }
 }

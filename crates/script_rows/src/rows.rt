@@ -225,6 +225,22 @@ fn reads_calls_of_connections(rt: HostRuntime) -> Result<(), Fail> {
             "Some(Call(A, Request(ChannelKey { id: 1, own: true }, Text { inner: \"m\" }, List(ArgList { items: [Plain(Datum { node: Whole(Whole { inner: 1 }) }), Progress] }), Plain)))",
         ),
         (
+            "request A A1 m sequence [{\"$object\":[1,\"explicit\"]},{\"$object\":[4294967296,\"call\"]}]",
+            "Some(Call(A, Request(ChannelKey { id: 1, own: true }, Text { inner: \"m\" }, List(ArgList { items: [Object(1, Explicit), Object(4294967296, Call)] }), Sequence)))",
+        ),
+        (
+            "notify B A1 m [{\"$handed\":3},{\"$handed\":-1}]",
+            "Some(Call(B, Notify(ChannelKey { id: 1, own: false }, Text { inner: \"m\" }, List(ArgList { items: [Handed(3), Plain(Datum { node: Pairs(PairList { pairs: [(Text { inner: \"$handed\" }, Datum { node: Whole(Whole { inner: -1 }) })] }) })] }))))",
+        ),
+        (
+            "object B A1 1 4294967295",
+            "Some(Call(B, Respond(ChannelKey { id: 1, own: false }, Number(1), Object(4294967295))))",
+        ),
+        (
+            "object A A1 \"x\" 0",
+            "Some(Call(A, Respond(ChannelKey { id: 1, own: true }, Name(Text { inner: \"x\" }), Object(0))))",
+        ),
+        (
             "cancel B A1 7",
             "Some(Call(B, Cancel(ChannelKey { id: 1, own: false }, 7)))",
         ),
@@ -255,6 +271,22 @@ fn reads_calls_of_connections(rt: HostRuntime) -> Result<(), Fail> {
         (
             "abort B A1 7",
             "Some(Call(B, Abort(ChannelKey { id: 1, own: false }, 7)))",
+        ),
+        (
+            "invoke A A1 3 bump plain [{\"$handed\":2}]",
+            "Some(Call(A, Invoke(ChannelKey { id: 1, own: true }, 3, Text { inner: \"bump\" }, List(ArgList { items: [Handed(2)] }), Plain)))",
+        ),
+        (
+            "invoke B A1 4294967295 7 sequence -",
+            "Some(Call(B, Invoke(ChannelKey { id: 1, own: false }, 4294967295, Text { inner: \"7\" }, Absent, Sequence)))",
+        ),
+        (
+            "release A A1 own 1",
+            "Some(Call(A, Release(ChannelKey { id: 1, own: true }, HandleKey { number: 1, own: true })))",
+        ),
+        (
+            "release A A1 peer 4294967295",
+            "Some(Call(A, Release(ChannelKey { id: 1, own: true }, HandleKey { number: 4294967295, own: false })))",
         ),
         (
             "outcome A A1 4294967295",
@@ -437,14 +469,8 @@ fn refuses_broken_calls_of_connections(rt: HostRuntime) -> Result<(), Fail> {
         ("request A A1 m plain 5", 93),
         ("request A A1 m plain - ", 93),
         ("request A A1 m sequence [1.5]", 93),
-        (
-            "request A A1 m sequence [{\"$object\":[1,\"explicit\"]}]",
-            94,
-        ),
-        ("request A A1 m plain [1,{\"$object\":[1,\"call\"]}]", 94),
         ("notify A A1 m", 92),
         ("notify A A1 m {", 93),
-        ("notify A A1 m [{\"$handed\":3}]", 94),
         ("result B A1 x 5", 92),
         ("result B A1 1.5 5", 92),
         ("result B A1 \"a b\" 5", 92),
@@ -484,8 +510,20 @@ fn refuses_broken_calls_of_connections(rt: HostRuntime) -> Result<(), Fail> {
         ("next A A1 1 1", 92),
         ("abort A A1 -1", 92),
         ("abort A A1", 92),
-        ("object", 94),
-        ("release A", 94),
+        ("object", 92),
+        ("object B A1 x 1", 92),
+        ("object B A1 1", 92),
+        ("object B A1 1 4294967296", 92),
+        ("object B A1 1 1 1", 92),
+        ("invoke A A1 m plain -", 92),
+        ("invoke A A1 1 m odd -", 92),
+        ("invoke A A1 1 m plain", 92),
+        ("invoke A A1 1 m plain 5", 93),
+        ("release A", 92),
+        ("release A A1 mine 1", 92),
+        ("release A A1 1 own", 92),
+        ("release A A1 own -1", 92),
+        ("release A A1 peer 1 1", 92),
         ("Request A A1 m plain -", 91),
     ];
     assert_eq!(rt; first_other_reason(rt.alloc(), &rows)?, None);

@@ -9,8 +9,8 @@ use Rattle.message_framing.specs.declared.framing.Framing.{Framing}
 use Rattle.message_framing.specs.declared.framing.Framing.TheVariants as framing
 use Rattle.rpc_items.specs.declared.calls.Expect.{Expect}
 use Rattle.rpc_items.specs.declared.calls.Expect.TheVariants as expect
-use Rattle.text_words.specs.Written.{framing_word, encoding_word, expect_word, is_method, is_text_word}
-use Rattle.text_words.specs.Reading.{framing_in, encoding_in, expect_in, method_in}
+use Rattle.text_words.specs.Written.{framing_word, encoding_word, expect_word, owner_word, is_method, is_text_word}
+use Rattle.text_words.specs.Reading.{framing_in, encoding_in, expect_in, owner_in, method_in}
 use Rattle.text_words.specs.Json.{json_id_in}
 use Rattle.text_words.proofs.ByteTests.{same_from_bytes_eq, and_true}
 
@@ -30,6 +30,11 @@ pub expect_in-word : (x : Expect) → expect_in (expect_word x) ≡ Some x
 unfolding expect_in
 expect_in-word expect.Plain = refl
 expect_in-word expect.Sequence = refl
+
+pub owner_in-word : (own : Bool) → owner_in (owner_word own) ≡ Some own
+unfolding owner_in
+owner_in-word true = refl
+owner_in-word false = refl
 
 pub method_in-word : (x : List ℕ) → is_method x ≡ true → method_in x ≡ Some x
 unfolding method_in
@@ -67,6 +72,10 @@ encoding_in-some w x h = chosen_of_two encoding_word w encoding.Json encoding.Pa
 pub expect_in-some : (w : List ℕ) (x : Expect) → expect_in w ≡ Some x → expect_word x ≡ w
 unfolding expect_in
 expect_in-some w x h = chosen_of_two expect_word w expect.Plain expect.Sequence x _ _ refl refl h
+
+pub owner_in-some : (w : List ℕ) (own : Bool) → owner_in w ≡ Some own → owner_word own ≡ w
+unfolding owner_in
+owner_in-some w own h = chosen_of_two owner_word w true false own _ _ refl refl h
 
 pub method_in-some : (w x : List ℕ) → is_text_word w ≡ true → method_in w ≡ Some x → (x ≡ w) × (is_method x ≡ true)
 unfolding method_in

@@ -7,12 +7,12 @@ use Rattle.std.proofs.lemmas.Bool.{and_parts}
 use Rattle.std.proofs.lemmas.Option.{option_and_then_some}
 use Rattle.text_words.specs.Written.{is_number, is_byte, nonce_size, is_text_word}
 use Rattle.text_words.specs.Json.{json_id_in}
-use Rattle.text_words.specs.Forms.{Form, side, channel, name, number, limited, bytes, byte, nonce, count, framing, encoding, expect, method, signed, json_id, FormValue, read_form, write_form, is_value, FormValues, read_front, write_forms, are_values}
+use Rattle.text_words.specs.Forms.{Form, side, channel, name, number, limited, bytes, byte, nonce, count, framing, encoding, expect, owner, method, signed, json_id, FormValue, read_form, write_form, is_value, FormValues, read_front, write_forms, are_values}
 use Rattle.text_words.proofs.ByteTests.{and_true}
 use Rattle.text_words.proofs.Values.{side_in-word, channel_in-word, name_in-word, number_in-word, number_up_to-word, bytes_in-word, byte_in-word, nonce_in-word, count_in-word, side_in-some, channel_in-some, name_in-some, number_in-is, number_up_to-some, bytes_in-is, byte_in-some, nonce_in-some, count_in-some}
-use Rattle.text_words.proofs.Choices.{framing_in-word, encoding_in-word, expect_in-word, method_in-word, json_id-word, framing_in-some, encoding_in-some, expect_in-some, method_in-some, json_id-some}
+use Rattle.text_words.proofs.Choices.{framing_in-word, encoding_in-word, expect_in-word, owner_in-word, method_in-word, json_id-word, framing_in-some, encoding_in-some, expect_in-some, owner_in-some, method_in-some, json_id-some}
 use Rattle.text_words.proofs.Signs.{signed_in-word, signed_in-some}
-use Rattle.text_words.proofs.Texts.{text_side, text_channel, text_name, text_number, text_bytes, text_count, text_framing, text_encoding, text_expect, text_signed}
+use Rattle.text_words.proofs.Texts.{text_side, text_channel, text_name, text_number, text_bytes, text_count, text_framing, text_encoding, text_expect, text_owner, text_signed}
 
 -- what is written is read
 pub read_form-written : (f : Form) (x : FormValue f) → is_value f x ≡ true → read_form f (write_form f x) ≡ Some x
@@ -28,6 +28,7 @@ read_form-written count x h = count_in-word x h
 read_form-written framing x h = framing_in-word x
 read_form-written encoding x h = encoding_in-word x
 read_form-written expect x h = expect_in-word x
+read_form-written owner x h = owner_in-word x
 read_form-written method x h = method_in-word x h
 read_form-written signed x h = signed_in-word x h
 read_form-written json_id x h = json_id-word x h
@@ -46,6 +47,7 @@ read_form-some count word x t h = count_in-some word x h
 read_form-some framing word x t h = (framing_in-some word x h, refl)
 read_form-some encoding word x t h = (encoding_in-some word x h, refl)
 read_form-some expect word x t h = (expect_in-some word x h, refl)
+read_form-some owner word x t h = (owner_in-some word x h, refl)
 read_form-some method word x t h = method_in-some word x t h
 read_form-some signed word x t h = signed_in-some word x h
 read_form-some json_id word x t h = json_id-some word x t h
@@ -64,6 +66,7 @@ write_form-text count x h = text_count x h
 write_form-text framing x h = text_framing x
 write_form-text encoding x h = text_encoding x
 write_form-text expect x h = text_expect x
+write_form-text owner x h = text_owner x
 write_form-text method x h = (and_parts (is_text_word x) (not (bytes_eq x [])) h).0
 write_form-text signed x h = text_signed x h
 write_form-text json_id x h = (and_parts (is_text_word x) (is_some (json_id_in x)) h).0

@@ -23,7 +23,7 @@ use Rattle.rpc_items.specs.declared.calls.Expect.{Expect}
 use Rattle.rpc_items.specs.declared.calls.Expect.TheVariants as expect
 use Rattle.text_words.specs.declared.channel_name.ChannelName.{ChannelName}
 use Rattle.text_words.specs.Bytes.{space}
-use Rattle.text_words.specs.Written.{side_word, channel_word, name_word, bytes_word, count_word, framing_word, encoding_word, expect_word, Signed, signed_word, hyphen, everything, is_number, is_name, is_byte, is_text_word, stands_in_word}
+use Rattle.text_words.specs.Written.{side_word, channel_word, name_word, bytes_word, count_word, framing_word, encoding_word, expect_word, owner_word, Signed, signed_word, hyphen, everything, is_number, is_name, is_byte, is_text_word, stands_in_word}
 use Rattle.text_words.specs.Reading.{decimal_base}
 use Rattle.text_words.proofs.ByteTests.{tested, and_true}
 use Rattle.text_words.proofs.Numbers.{own}
@@ -134,6 +134,13 @@ visible_expect expect.Sequence = refl
 
 pub text_expect : (x : Expect) → is_text_word (expect_word x) ≡ true
 text_expect x = visible_word (expect_word x) (visible_expect x)
+
+visible_owner : (own : Bool) → is_visible_word (owner_word own) ≡ true
+visible_owner true = refl
+visible_owner false = refl
+
+pub text_owner : (own : Bool) → is_text_word (owner_word own) ≡ true
+text_owner own = visible_word (owner_word own) (visible_owner own)
 
 visible_signed : (negative : Bool) (size : ℕ) → is_number size ≡ true → is_visible_word (signed_word (record { negative = negative; size = size })) ≡ true
 visible_signed true size h = visible_decimal size h

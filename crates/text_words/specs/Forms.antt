@@ -6,12 +6,12 @@ use Rattle.message_framing.specs.declared.framing.Framing.{Framing}
 use Rattle.mux_run.specs.declared.steps.Side.{Side}
 use Rattle.rpc_items.specs.declared.calls.Expect.{Expect}
 use Rattle.text_words.specs.declared.channel_name.ChannelName.{ChannelName}
-use Rattle.text_words.specs.Written.{side_word, channel_word, name_word, bytes_word, count_word, framing_word, encoding_word, expect_word, Signed, signed_word, everything, is_number, is_name, is_byte, is_nonce, is_method, is_text_word}
-use Rattle.text_words.specs.Reading.{◌>>=◌, side_in, channel_in, name_in, number_up_to, number_in, bytes_in, byte_in, nonce_in, count_in, framing_in, encoding_in, expect_in, method_in, signed_in}
+use Rattle.text_words.specs.Written.{side_word, channel_word, name_word, bytes_word, count_word, framing_word, encoding_word, expect_word, owner_word, Signed, signed_word, everything, is_number, is_name, is_byte, is_nonce, is_method, is_text_word}
+use Rattle.text_words.specs.Reading.{◌>>=◌, side_in, channel_in, name_in, number_up_to, number_in, bytes_in, byte_in, nonce_in, count_in, framing_in, encoding_in, expect_in, owner_in, method_in, signed_in}
 use Rattle.text_words.specs.Json.{json_id_in}
 
--- `limited` is a number of at most this limit, `count` a number or all that is there, `json_id` an id as JSON, which has more than one
--- text and therefore stands for its text
+-- `limited` is a number of at most this limit, `count` a number or all that is there, `owner` whether a handle is one of this end, `json_id`
+-- an id as JSON, which has more than one text and therefore stands for its text
 pub data Form : Type 0 where
   side : Form
   channel : Form
@@ -25,6 +25,7 @@ pub data Form : Type 0 where
   framing : Form
   encoding : Form
   expect : Form
+  owner : Form
   method : Form
   signed : Form
   json_id : Form
@@ -43,6 +44,7 @@ FormValue count = ℕ
 FormValue framing = Framing
 FormValue encoding = Encoding
 FormValue expect = Expect
+FormValue owner = Bool
 FormValue method = List ℕ
 FormValue signed = Signed
 FormValue json_id = List ℕ
@@ -61,6 +63,7 @@ write_form count x = count_word x
 write_form framing x = framing_word x
 write_form encoding x = encoding_word x
 write_form expect x = expect_word x
+write_form owner x = owner_word x
 write_form method x = x
 write_form signed x = signed_word x
 write_form json_id x = x
@@ -79,6 +82,7 @@ read_form count word = count_in word
 read_form framing word = framing_in word
 read_form encoding word = encoding_in word
 read_form expect word = expect_in word
+read_form owner word = owner_in word
 read_form method word = method_in word
 read_form signed word = signed_in word
 read_form json_id word = option_map (λ _. word) (json_id_in word)
@@ -97,6 +101,7 @@ is_value count x = is_number x || x == everything
 is_value framing x = true
 is_value encoding x = true
 is_value expect x = true
+is_value owner x = true
 is_value method x = is_method x
 is_value signed x = is_number x.size
 is_value json_id x = is_text_word x && is_some (json_id_in x)

@@ -15,7 +15,7 @@ use Rattle.rpc_items.specs.declared.calls.Expect.{Expect}
 use Rattle.rpc_items.specs.declared.calls.Expect.TheVariants as expect
 use Rattle.text_words.specs.declared.channel_name.ChannelName.{ChannelName}
 use Rattle.text_words.specs.Bytes.{space, plus, minus, zero_digit, capital_a, capital_z}
-use Rattle.text_words.specs.Written.{is_number, hyphen, bytes_word, everything, nonce_size, framing_word, encoding_word, expect_word, Signed}
+use Rattle.text_words.specs.Written.{is_number, hyphen, bytes_word, everything, nonce_size, framing_word, encoding_word, expect_word, owner_word, Signed}
 
 -- what the next part makes of the value, where there is one
 infixl 10 ◌>>=◌
@@ -115,6 +115,13 @@ unfoldable pub expect_in : List ℕ → Option Expect
 expect_in word =
     if bytes_eq word (expect_word expect.Plain) then Some expect.Plain
     else if bytes_eq word (expect_word expect.Sequence) then Some expect.Sequence
+    else None
+
+-- whether a handle is one of this end
+unfoldable pub owner_in : List ℕ → Option Bool
+owner_in word =
+    if bytes_eq word (owner_word true) then Some true
+    else if bytes_eq word (owner_word false) then Some false
     else None
 
 -- any word but the empty one

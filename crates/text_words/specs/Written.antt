@@ -80,6 +80,11 @@ abbrev pub expect_word : Expect → List ℕ
 expect_word expect.Plain = codes "plain"
 expect_word expect.Sequence = codes "sequence"
 
+-- whose handle it is: one of this end, or of the peer
+abbrev pub owner_word : (own : Bool) → List ℕ
+owner_word true = codes "own"
+owner_word false = codes "peer"
+
 -- a number with a sign, as it is written: the code of an error
 pub record Signed : Type 0 where
   pub negative : Bool

@@ -11,9 +11,10 @@ pub use channel_name::{ChannelName, other_side};
 pub use json_texts::{arguments, array, json, json_id, string};
 pub use laws::words_are_read_as_written;
 pub use push::{
-    push_bytes, push_channel, push_decimal, push_hex, push_line_feed, push_side, push_text,
+    push_bytes, push_channel, push_decimal, push_hex, push_line_feed, push_owner, push_side,
+    push_text,
 };
 pub use read::{
     NONCE_SIZE, byte, bytes, channel, count, encoding, expect, framing, limited_number, method,
-    name, nonce, number, side, signed, words,
+    name, nonce, number, owner, side, signed, words,
 };

@@ -3,7 +3,7 @@
 ghost use Rattle.std.specs.Prelude.{◌≡◌, ◌++◌, OnOk};
 ghost use Rattle.std.specs.Fmt.{decimal};
 ghost use Rattle.hex.specs.Hex.{encode_lower};
-ghost use Rattle.text_words.specs.Written.{line_feed, side_word, channel_word, name_at, bytes_word};
+ghost use Rattle.text_words.specs.Written.{line_feed, side_word, channel_word, name_at, bytes_word, owner_word};
 
 use crate::channel_name::ChannelName;
 use itoa::Buffer;
@@ -59,6 +59,17 @@ pub fn push_side(out: &mut Vec<u8>, side: Side) -> Result<(), OutOfMemory>
     match side {
         Side::A => push_text(out, "A"),
         Side::B => push_text(out, "B"),
+    }
+}
+
+/// Appends whose a handle is: this end's or the peer's.
+pub fn push_owner(out: &mut Vec<u8>, own: bool) -> Result<(), OutOfMemory>
+    ensures { OnOk result (out.new.items ≡ out.old.items ++ owner_word own) }
+{
+    if own {
+        push_text(out, "own")
+    } else {
+        push_text(out, "peer")
     }
 }
 

@@ -3,7 +3,7 @@
 ghost use Rattle.std.specs.Prelude.{◌≡◌, map, IfOk, Some, None};
 ghost use Rattle.std.specs.Option.{option_map};
 ghost use Rattle.std.specs.List.{list_any};
-ghost use Rattle.text_words.specs.Reading.{words_of, side_in, number_in, number_up_to, channel_in, name_in, bytes_in, byte_in, nonce_in, count_in, has_other_front, front_in, is_capital, framing_in, encoding_in, expect_in, method_in, signed_in};
+ghost use Rattle.text_words.specs.Reading.{words_of, side_in, number_in, number_up_to, channel_in, name_in, bytes_in, byte_in, nonce_in, count_in, has_other_front, front_in, is_capital, framing_in, encoding_in, expect_in, owner_in, method_in, signed_in};
 ghost use Rattle.text_words.specs.Written.{signed_value};
 
 use crate::channel_name::ChannelName;
@@ -188,6 +188,18 @@ pub fn expect(word: &str) -> Option<Expect>
     match word {
         "plain" => Some(Expect::Plain),
         "sequence" => Some(Expect::Sequence),
+        _ => None,
+    }
+}
+
+/// Whether a handle is one of this end, by whose it is.
+#[tactic(auto, unfolding(crate::specs::Reading::owner_in))]
+pub fn owner(word: &str) -> Option<bool>
+    ensures { result ≡ owner_in word.now }
+{
+    match word {
+        "own" => Some(true),
+        "peer" => Some(false),
         _ => None,
     }
 }

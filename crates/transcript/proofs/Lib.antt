@@ -1,4 +1,5 @@
 pub mod Channels
 pub mod Emitted
+pub mod Joined
 pub mod Reported
 pub mod Whole

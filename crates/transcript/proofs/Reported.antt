@@ -1,10 +1,9 @@
 -- The lines of steps, one after the other, and what holds of their run.
-use Rattle.std.proofs.Common.{◌≡◌, ℕ, ◌+◌, ◌≤◌, List, [], ◌∷◌, ◌++◌, true, length, length-append, refl, sym, ◌∙◌, ap, subst, arith, append_assoc}
-use Rattle.std.proofs.lemmas.Bool.{and_parts}
+use Rattle.std.proofs.Common.{◌≡◌, ℕ, ◌+◌, ◌≤◌, List, [], ◌∷◌, ◌++◌, length, length-append, refl, sym, ◌∙◌, ap, subst, arith, append_assoc}
 use Rattle.std.proofs.lemmas.List.{append-nil}
 use Rattle.mux_run.specs.Run.{Terms}
 use Rattle.endpoint_run.specs.declared.steps.Step.{Step}
-use Rattle.endpoint_run.specs.Answers.{are_built_steps, is_built_step, made_step, run, world_by}
+use Rattle.endpoint_run.specs.Answers.{made_step, run, world_by}
 use Rattle.endpoint_run.proofs.Telling.{run_goes_on}
 use Rattle.duo_world.specs.Holding.{DuoState, StandsForRun}
 use Rattle.duo_world.specs.Stepping.{RunHolds}
@@ -42,10 +41,3 @@ all_stored all xs rest none is = sym (append-nil xs) ∙ (ap (λ r. xs ++ r) (sy
 -- what holds of the run of a world that made all of them
 pub all_hold : (terms : Terms) (steps : List Step) (d : DuoState) → d.terms ≡ terms → d.steps ≡ steps → StandsForRun d → RunHolds terms steps
 all_hold terms steps d terms_are stored stands = subst (λ t. RunHolds t steps) terms_are (subst (RunHolds d.terms) stored (run_holds d.terms d.steps d.a d.b stands))
-
--- where all that are left are built, so are the first and those after it
-pub first_built : (rest ys : List Step) (s : Step) → rest ≡ s ∷ ys → are_built_steps rest ≡ true → is_built_step s ≡ true
-first_built rest ys s next built = (and_parts (is_built_step s) (are_built_steps ys) (sym (ap are_built_steps next) ∙ built)).0
-
-pub others_built : (rest ys : List Step) (s : Step) → rest ≡ s ∷ ys → are_built_steps rest ≡ true → are_built_steps ys ≡ true
-others_built rest ys s next built = (and_parts (is_built_step s) (are_built_steps ys) (sym (ap are_built_steps next) ∙ built)).1

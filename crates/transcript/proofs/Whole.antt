@@ -1,5 +1,5 @@
 -- A whole report from its parts.
-use Rattle.std.proofs.Common.{◌≡◌, ℕ, List, [], ◌++◌, codes, ◌∙◌, sym, ap, subst, append_assoc}
+use Rattle.std.proofs.Common.{◌≡◌, ℕ, List, [], ◌++◌, codes, ◌∙◌, sym, ap, subst}
 use Rattle.std.proofs.lemmas.List.{append-nil}
 use Rattle.frame_text.specs.Hello.{hello}
 use Rattle.mux_run.specs.declared.steps.Side.{Side}
@@ -15,19 +15,7 @@ use Rattle.duo_world.specs.Holding.{DuoState, StandForWorld, StandsForRun}
 use Rattle.transcript.specs.Words.{emitted_line}
 use Rattle.transcript.specs.Report.{steps_lines, opening_lines, closing_lines, summary, report_text}
 use Rattle.transcript.specs.Ran.{HasRun}
-
--- three texts behind another, one after the other
-joined_three : (all a b c m₁ m₂ m₃ : List ℕ) → m₁ ≡ all ++ a → m₂ ≡ m₁ ++ b → m₃ ≡ m₂ ++ c → m₃ ≡ all ++ (a ++ b ++ c)
-joined_three all a b c m₁ m₂ m₃ h₁ h₂ h₃ =
-    let whole : m₃ ≡ ((all ++ a) ++ b) ++ c = cc in
-    let regrouped : ((all ++ a) ++ b) ++ c ≡ all ++ (a ++ b ++ c) = simp append_assoc in
-    whole ∙ regrouped
-
-joined_four : (all a b c d m₁ m₂ m₃ m₄ : List ℕ) → m₁ ≡ all ++ a → m₂ ≡ m₁ ++ b → m₃ ≡ m₂ ++ c → m₄ ≡ m₃ ++ d → m₄ ≡ all ++ (a ++ b ++ c ++ d)
-joined_four all a b c d m₁ m₂ m₃ m₄ h₁ h₂ h₃ h₄ =
-    let whole : m₄ ≡ (((all ++ a) ++ b) ++ c) ++ d = cc in
-    let regrouped : (((all ++ a) ++ b) ++ c) ++ d ≡ all ++ (a ++ b ++ c ++ d) = simp append_assoc in
-    whole ∙ regrouped
+use Rattle.transcript.proofs.Joined.{joined_three, joined_four}
 
 -- before the first step the handshakes are on their way
 pub opening_is : (d : DuoState) (all m₁ m₂ m₃ : List ℕ) → d.steps ≡ [] → StandsForRun d → m₁ ≡ all ++ codes "report 1\n0 start\n"

@@ -1,5 +1,5 @@
 -- The report of a run.
-use Rattle.std.specs.Prelude.{ℕ, zero, suc, ◌+◌, false, List, [], ◌∷◌, ◌++◌, length, drop, filter, codes, Option, Some, None}
+use Rattle.std.specs.Prelude.{ℕ, zero, suc, ◌+◌, Bool, false, List, [], ◌∷◌, ◌++◌, length, drop, filter, codes, Option, Some, None}
 use Rattle.std.specs.List.{flat_map}
 use Rattle.std.specs.Fmt.{decimal}
 use Rattle.wire_base.specs.declared.frame.Version.{Version}
@@ -10,7 +10,12 @@ use Rattle.frame_text.specs.Hello.{hello}
 use Rattle.mux_items.specs.declared.channel.ChannelKey.{ChannelKey}
 use Rattle.mux_items.specs.declared.channel.Tally.{Tally}
 use Rattle.mux_items.specs.Items.{ended}
+use Rattle.marshalled_handles.specs.Numbers.{adopted_numbers}
+use Rattle.marshalled_handles.specs.Stands.{standing}
+use Rattle.rpc_items.specs.declared.calls.HandleKey.{HandleKey}
 use Rattle.rpc_items.specs.Drawn.{drawn}
+use Rattle.rpc_items.specs.Keys.{own_key, peer_key}
+use Rattle.rpc_items.specs.Made.{last_handle}
 use Rattle.rpc_items.specs.Outcomes.{Look, Known, NotYet, NoRequest}
 use Rattle.endpoint_items.specs.Connections.{items_of}
 use Rattle.endpoint_items.specs.Items.{EndItem}
@@ -25,8 +30,8 @@ use Rattle.endpoint_run.specs.declared.answers.DuoAnswer.{DuoAnswer}
 use Rattle.endpoint_run.specs.declared.answers.DuoAnswer.TheVariants as duo
 use Rattle.endpoint_run.specs.Run.{EndWorld, start}
 use Rattle.endpoint_run.specs.Answers.{answer, made_step, side_of, world_by, run}
-use Rattle.text_words.specs.Written.{line_feed, side_word, name_at, is_same_side}
-use Rattle.transcript.specs.Words.{channel_text, cause_text, phase_text, outcome_text, reply_text, event_line, emitted_line}
+use Rattle.text_words.specs.Written.{line_feed, side_word, owner_word, name_at, is_same_side}
+use Rattle.transcript.specs.Words.{channel_text, cause_text, phase_text, outcome_text, life_text, reply_text, event_line, emitted_line}
 
 -- what a step answered, and the lines of its events
 abbrev pub answer_lines : Side → DuoAnswer → List ℕ
@@ -83,18 +88,41 @@ request_line_of side key n NoRequest = []
 abbrev pub request_line : Version → Side → List EndItem → ChannelKey → (n : ℕ) → List ℕ
 request_line v side items key n = request_line_of side key n (outcome_on false v key n items)
 
--- the lines of the first so many requests, by their numbers
-abbrev pub first_request_lines : Version → Side → List EndItem → ChannelKey → (count : ℕ) → List ℕ
-first_request_lines v side items key zero = []
-first_request_lines v side items key (suc n) = first_request_lines v side items key n ++ request_line v side items key (suc n)
+-- the lines of the numbers from 1 to this one
+abbrev pub lines_to : (ℕ → List ℕ) → (last : ℕ) → List ℕ
+lines_to line zero = []
+lines_to line (suc n) = lines_to line n ++ line (suc n)
 
 -- the lines of the requests that the connection of a channel drew numbers for
 abbrev pub request_lines : Version → Side → List EndItem → ChannelKey → List ℕ
-request_lines v side items key = first_request_lines v side items key (drawn (items_of (rpc_of v key items)))
+request_lines v side items key = lines_to (request_line v side items key) (drawn (items_of (rpc_of v key items)))
 
--- the lines of a channel: what came of it, and its requests
+-- the line of a handle of a connection, by whether it lives; one that wasn't made or adopted has none
+abbrev pub handle_line_of : Side → ChannelKey → HandleKey → (live : Option Bool) → List ℕ
+handle_line_of side key handle (Some live) =
+    side_word side ++ codes " " ++ channel_text side key ++ codes " handle " ++ owner_word handle.own ++ codes " " ++ decimal handle.number ++ codes " " ++ life_text live ++ line_feed
+handle_line_of side key handle None = []
+
+abbrev pub handle_line : Version → Side → List EndItem → ChannelKey → HandleKey → List ℕ
+handle_line v side items key handle = handle_line_of side key handle (standing handle (items_of (rpc_of v key items)))
+
+abbrev pub own_handle_line : Version → Side → List EndItem → ChannelKey → (n : ℕ) → List ℕ
+own_handle_line v side items key n = handle_line v side items key (own_key n)
+
+abbrev pub peer_handle_line : Version → Side → List EndItem → ChannelKey → (n : ℕ) → List ℕ
+peer_handle_line v side items key n = handle_line v side items key (peer_key n)
+
+-- the lines of the handles that the connection of a channel made
+abbrev pub own_handle_lines : Version → Side → List EndItem → ChannelKey → List ℕ
+own_handle_lines v side items key = lines_to (own_handle_line v side items key) (last_handle (items_of (rpc_of v key items)))
+
+-- the lines of those that it adopted from the peer, by rising number
+abbrev pub peer_handle_lines : Version → Side → List EndItem → ChannelKey → List ℕ
+peer_handle_lines v side items key = flat_map (peer_handle_line v side items key) (adopted_numbers (items_of (rpc_of v key items)))
+
+-- the lines of a channel: what came of it, its requests, and the handles of both ends
 abbrev pub known_lines : Version → Side → List EndItem → ChannelKey → List ℕ
-known_lines v side items key = channel_line v side items key ++ request_lines v side items key
+known_lines v side items key = channel_line v side items key ++ request_lines v side items key ++ own_handle_lines v side items key ++ peer_handle_lines v side items key
 
 -- of these channels, as a side names them, those that another side, or itself, offered
 abbrev pub keys_of : (side offering : Side) → List ChannelKey → List ChannelKey

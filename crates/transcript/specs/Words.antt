@@ -1,5 +1,5 @@
 -- The words of a report.
-use Rattle.std.specs.Prelude.{ℕ, List, [], ◌++◌, codes, if◌then◌else◌, Option, Some, None}
+use Rattle.std.specs.Prelude.{ℕ, List, [], ◌++◌, Bool, true, false, codes, if◌then◌else◌, Option, Some, None}
 use Rattle.std.specs.Fmt.{decimal}
 use Rattle.hex.specs.Hex.{encode_lower}
 use Rattle.frame_text.specs.Frames.{is_empty}
@@ -57,6 +57,11 @@ outcome_text (outcome.Replied value) = codes "replied " ++ shown value
 outcome_text (outcome.Failed code message more) = codes "failed " ++ shown (whole code) ++ codes " " ++ shown (words message)
 outcome_text outcome.Lost = codes "lost"
 outcome_text outcome.Starved = codes "starved"
+
+-- whether a handle lives
+abbrev pub life_text : (live : Bool) → List ℕ
+life_text true = codes "live"
+life_text false = codes "released"
 
 -- the next report of progress, where one was left
 abbrev pub progress_text : Option Tree → List ℕ

@@ -1,10 +1,10 @@
 //! Running a script and reporting its run.
 
-ghost use Rattle.std.specs.Prelude.{◌≡◌, ◌≤◌, ◌++◌, [], length, drop, true, false, codes, OnOk, OnErr, IfOk};
+ghost use Rattle.std.specs.Prelude.{◌≡◌, ◌≤◌, ◌++◌, [], length, drop, false, codes, OnOk, OnErr, IfOk};
 ghost use Rattle.std.specs.Fmt.{decimal};
 ghost use Rattle.std.specs.List.{flat_map};
 ghost use Rattle.mux_run.specs.Run.{terms_of};
-ghost use Rattle.endpoint_run.specs.Answers.{are_built_steps, is_built_step, run, side_of};
+ghost use Rattle.endpoint_run.specs.Answers.{run, side_of};
 ghost use Rattle.endpoint_run.specs.Run.{start};
 ghost use Rattle.endpoint_run.specs.declared.answers.DuoAnswer.{DuoAnswer};
 ghost use Rattle.duo_world.specs.Holding.{StandsForRun};
@@ -110,8 +110,7 @@ fn push_step(
     number: u64,
     step: Step,
 ) -> Result<(), OutOfMemory>
-    requires works { duo.old.failed ≡ false }
-    requires built { is_built_step step ≡ true }
+    requires { duo.old.failed ≡ false }
     ensures text { OnOk result (out.new.items ≡ out.old.items ++ step_lines duo.old.terms number step (run duo.old.terms duo.old.steps)) }
     ensures made { OnOk result ((reply : DuoAnswer) × IsStepped duo.old duo.new step reply) }
 {
@@ -143,7 +142,6 @@ fn push_steps(
     requires fresh { duo.old.steps ≡ [] }
     requires works { duo.old.failed ≡ false }
     requires stands { StandsForRun duo.old }
-    requires built { are_built_steps steps.items ≡ true }
     ensures text { OnOk result (out.new.items ≡ out.old.items ++ steps_lines duo.old.terms 1 start steps.items) }
     ensures made { OnOk result (HasRun duo.old.terms steps.items duo.new) }
 {
@@ -180,7 +178,6 @@ fn push_closing(alloc: Global, out: &mut Vec<u8>, duo: &Duo) -> Result<(), OutOf
 }
 
 fn push_report(alloc: Global, out: &mut Vec<u8>, script: Script) -> Result<Duo, OutOfMemory>
-    requires built { are_built_steps script.steps ≡ true }
     ensures text { OnOk result (out.new.items ≡ out.old.items ++ report_text (terms_of script.version script.nonces) script.steps) }
     ensures ran { IfOk result (HasRun (terms_of script.version script.nonces) script.steps) }
 {
@@ -195,7 +192,6 @@ fn push_report(alloc: Global, out: &mut Vec<u8>, script: Script) -> Result<Duo, 
 ///
 /// The world that ran it is answered: its terms and its steps are the script's. Where memory runs out nothing is appended.
 pub fn report(alloc: Global, script: Script, out: &mut Vec<u8>) -> Result<Duo, OutOfMemory>
-    requires built { are_built_steps script.steps ≡ true }
     ensures text { OnOk result (out.new.items ≡ out.old.items ++ report_text (terms_of script.version script.nonces) script.steps) }
     ensures ran { IfOk result (HasRun (terms_of script.version script.nonces) script.steps) }
     ensures err { OnErr result (out.new.items ≡ out.old.items) }

@@ -6,7 +6,7 @@ use Rattle.transcript.proofs.running.push_step.Goals as goal
 
 pub behind-requires : goal.behind-requires
 behind-requires c =
-    let made = made_of c.args.duo.now c.step-answer.new.self c.args.step c.step-answer.result (c.step-answer.ensures c.requires.works) c.in_default.not-OutOfMemory in
+    let made = made_of c.args.duo.now c.step-answer.new.self c.args.step c.step-answer.result (c.step-answer.ensures c.requires) c.in_default.not-OutOfMemory in
     let told = step_told c.args.number c.args.step c.side_of-side.result c.step-answer.result c.args.duo.now c.step-answer.new.self c.side_of-side.ensures made in
     let before : c.in_flight-before.result.now ≡ output_to (other_side c.side_of-side.result) c.args.duo.now = c.in_flight-before.ensures.output ∙ ap (λ side. output_to side c.args.duo.now) c.other_side-other.ensures in
     let after : c.in_flight.result.now ≡ output_to (other_side c.side_of-side.result) c.step-answer.new.self = c.in_flight.ensures.output ∙ ap (λ side. output_to side c.step-answer.new.self) c.other_side-other.ensures in
@@ -14,7 +14,7 @@ behind-requires c =
 
 pub returns : goal.returns
 returns c =
-    let made = made_of c.args.duo.now c.step-answer.new.self c.args.step c.step-answer.result (c.step-answer.ensures c.requires.works) c.in_default.not-OutOfMemory in
+    let made = made_of c.args.duo.now c.step-answer.new.self c.args.step c.step-answer.result (c.step-answer.ensures c.requires) c.in_default.not-OutOfMemory in
     let told = step_told c.args.number c.args.step c.side_of-side.result c.step-answer.result c.args.duo.now c.step-answer.new.self c.side_of-side.ensures made in
     let before : c.in_flight-before.result.now ≡ output_to (other_side c.side_of-side.result) c.args.duo.now = c.in_flight-before.ensures.output ∙ ap (λ side. output_to side c.args.duo.now) c.other_side-other.ensures in
     let after : c.in_flight.result.now ≡ output_to (other_side c.side_of-side.result) c.step-answer.new.self = c.in_flight.ensures.output ∙ ap (λ side. output_to side c.step-answer.new.self) c.other_side-other.ensures in

@@ -1,7 +1,7 @@
 use Rattle.std.proofs.Common.{◌≡◌, ◌+◌, ◌∷◌, ◌++◌, [], length, length-append, ◌∙◌, ap, arith}
 use Rattle.endpoint_run.specs.Answers.{run}
 use Rattle.transcript.specs.Report.{step_lines}
-use Rattle.transcript.proofs.Reported.{stored_next, lines_next, number_fits, all_stored, all_hold, first_built, others_built}
+use Rattle.transcript.proofs.Reported.{stored_next, lines_next, number_fits, all_stored, all_hold}
 use Rattle.transcript.proofs.running.push_steps.Goals as goal
 
 pub overflow_add-number : goal.overflow_add-number
@@ -19,13 +19,9 @@ loop-step-preserved c =
       number = omega (arith, inv.number, ap length made.steps_are, length-append c.loop-step.duo.steps (c.in-Some.step ∷ []));
       works = made.works;
       stands = made.stands;
-      built = others_built _ _ c.in-Some.step c.in-Some.ensures.steps.0 inv.built;
       text = lines_next c.args.duo.now.terms c.loop-step.number c.loop-step.duo.steps _ _ c.push_step.new.duo.steps c.in-Some.step _ _ _ c.in-Some.ensures.steps.0 made.steps_are
           (c.in_ok-push_step.ensures.text ∙ ap (λ t. c.loop-step.out.items ++ step_lines t (c.loop-step.number + 1) c.in-Some.step (run t c.loop-step.duo.steps)) inv.terms) inv.text;
     }
-
-pub push_step-requires-clause-built : goal.push_step-requires-clause-built
-push_step-requires-clause-built c = first_built _ _ c.in-Some.step c.in-Some.ensures.steps.0 c.loop-step.invariant.built
 
 pub returns-clause-made : goal.returns-clause-made
 returns-clause-made c =

@@ -1,6 +1,6 @@
-use Rattle.std.proofs.Common.{◌≡◌, ◌+◌, ◌++◌, length, true, false}
+use Rattle.std.proofs.Common.{◌≡◌, ◌+◌, ◌++◌, length, false}
 use Rattle.std.specs.Vec.Iter.{into_iter_items}
-use Rattle.endpoint_run.specs.Answers.{are_built_steps, run}
+use Rattle.endpoint_run.specs.Answers.{run}
 use Rattle.endpoint_run.specs.Run.{start}
 use Rattle.duo_world.specs.Holding.{StandsForRun}
 use Rattle.transcript.specs.Report.{steps_lines}
@@ -13,6 +13,5 @@ invariant-loop-step l = record {
   number : l.number ≡ length l.duo.steps;
   works : l.duo.failed ≡ false;
   stands : StandsForRun l.duo;
-  built : are_built_steps (into_iter_items l.step-iterator) ≡ true;
   text : l.out.items ++ steps_lines l.fn.duo.terms (l.number + 1) (run l.fn.duo.terms l.duo.steps) (into_iter_items l.step-iterator) ≡ l.fn.out.items ++ steps_lines l.fn.duo.terms 1 start l.fn.steps.items;
 }

@@ -4,8 +4,8 @@ use Rattle.std.proofs.lemmas.List.{append-nil}
 use Rattle.rpc_items.specs.Drawn.{drawn}
 use Rattle.endpoint_items.specs.Connections.{items_of}
 use Rattle.endpoint_items.specs.Layers.{rpc_of}
-use Rattle.transcript.specs.Report.{request_line_of, first_request_lines}
-use Rattle.transcript.proofs.Channels.{requests_more}
+use Rattle.transcript.specs.Report.{request_line_of, request_line, lines_to}
+use Rattle.transcript.proofs.Channels.{one_more}
 use Rattle.transcript.proofs.summary.push_requests.Goals as goal
 
 pub loop-number-init : goal.loop-number-init
@@ -15,7 +15,7 @@ pub loop-number-preserved : goal.loop-number-preserved
 loop-number-preserved c = λ items at rest s.
     let before = c.loop-number.invariant items at rest s in (
       omega (arith, c.last_request-number-end.ensures items at rest s),
-      requests_more c.args.end.now.mux.version c.args.side items c.args.key c.loop-number.number _ _ _ (omega arith)
+      one_more (request_line c.args.end.now.mux.version c.args.side items c.args.key) c.loop-number.number _ _ _ (omega arith)
           (c.in_ok-push_request_line.ensures ∙ ap (λ look. c.loop-number.out.items ++ request_line_of c.args.side c.args.key c.loop-number.number look) (c.outcome.ensures items at rest s))
           before.1,
     )
@@ -24,13 +24,13 @@ pub returns : goal.returns
 returns c = λ items at rest s.
     let before = c.loop-number.invariant items at rest s in
     let last : c.loop-number.number - 1 ≡ drawn (items_of (rpc_of c.args.end.now.mux.version c.args.key items)) = omega (arith, c.last_request-number-end.ensures items at rest s, before.0) in
-    before.1 ∙ ap (λ k. c.args.out.now.items ++ first_request_lines c.args.end.now.mux.version c.args.side items c.args.key k) last
+    before.1 ∙ ap (λ k. c.args.out.now.items ++ lines_to (request_line c.args.end.now.mux.version c.args.side items c.args.key) k) last
 
 pub returns-in_ok-push_request_line : goal.returns-in_ok-push_request_line
 returns-in_ok-push_request_line c = λ items at rest s.
     let before = c.loop-number.invariant items at rest s in
     let last : c.loop-number.number + 1 - 1 ≡ drawn (items_of (rpc_of c.args.end.now.mux.version c.args.key items)) = omega (arith, c.last_request-number-end.ensures items at rest s) in
-    requests_more c.args.end.now.mux.version c.args.side items c.args.key c.loop-number.number _ _ _ (omega arith)
+    one_more (request_line c.args.end.now.mux.version c.args.side items c.args.key) c.loop-number.number _ _ _ (omega arith)
     (c.in_ok-push_request_line.ensures ∙ ap (λ look. c.loop-number.out.items ++ request_line_of c.args.side c.args.key c.loop-number.number look) (c.outcome.ensures items at rest s))
     before.1
-    ∙ ap (λ k. c.args.out.now.items ++ first_request_lines c.args.end.now.mux.version c.args.side items c.args.key k) last
+    ∙ ap (λ k. c.args.out.now.items ++ lines_to (request_line c.args.end.now.mux.version c.args.side items c.args.key) k) last

@@ -5,10 +5,10 @@ use Rattle.endpoint_items.specs.Connections.{items_of}
 use Rattle.endpoint_items.specs.Items.{EndItem}
 use Rattle.endpoint_items.specs.Layers.{rpc_of}
 use Rattle.endpoint.specs.Stands.{Stands}
-use Rattle.transcript.specs.Report.{first_request_lines}
+use Rattle.transcript.specs.Report.{request_line, lines_to}
 use Rattle.transcript.proofs.summary.push_requests.Given as goal
 
 abbrev pub invariant-loop-number : goal.invariant-loop-number
 invariant-loop-number l = (items : List EndItem) (at : ℕ) (rest : List ℕ) → Stands l.end items at rest →
     (l.number ≤ drawn (items_of (rpc_of l.end.mux.version l.key items)) + 1)
-    × (l.out.items ≡ l.fn.out.items ++ first_request_lines l.end.mux.version l.side items l.key (l.number - 1))
+    × (l.out.items ≡ l.fn.out.items ++ lines_to (request_line l.end.mux.version l.side items l.key) (l.number - 1))

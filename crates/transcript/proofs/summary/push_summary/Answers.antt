@@ -2,7 +2,8 @@ use Rattle.std.proofs.Common.{◌≡◌, ◌++◌, ap, ◌∙◌}
 use Rattle.mux_items.specs.Items.{ended}
 use Rattle.endpoint_items.specs.Layers.{mux_of}
 use Rattle.transcript.specs.Report.{shown_state, state_text}
-use Rattle.transcript.proofs.Channels.{shown_state-is, joined_six}
+use Rattle.transcript.proofs.Channels.{shown_state-is}
+use Rattle.transcript.proofs.Joined.{joined_six}
 use Rattle.transcript.proofs.summary.push_summary.Goals as goal
 
 pub returns : goal.returns
