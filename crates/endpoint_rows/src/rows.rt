@@ -1,10 +1,9 @@
 //! Rows of text, and two ends that live through them.
 
-use crate::answers::{
-    of_key, of_life, of_numbers, of_reply, of_state, of_step, of_tally, of_view, other, word,
-};
-use crate::values::{answer_of, call_of, count, handle_of, id_of, number, value};
+use crate::answers::{of_key, of_numbers, of_reply, of_step, of_tally, of_view, other};
+use crate::values::answer_of;
 use endpoint::{Answer, Call, ChannelKey, Encoding, Endpoint, Expect, Framing};
+use row_words::{call_of, count, handle_of, id_of, number, of_life, of_state, size, value, word};
 use rpc_end::Terms;
 use std::alloc::Global;
 use std::process::Abort;
@@ -87,14 +86,10 @@ pub fn makes(alloc: Global, side: &str, end: &mut Endpoint, call: Call) -> Resul
     of_reply(alloc, side, &end.apply(call))
 }
 
-fn window(word: &str) -> u32 {
-    u32::try_from(number(word)).unwrap_or(0)
-}
-
 fn offers(alloc: Global, words: &str) -> Result<mux_items::Call, Fail> {
     let (name, word) = first(words);
     let name = Text::from_str(alloc, name)?;
-    Ok(mux_items::Call::Offer(name, window(word)))
+    Ok(mux_items::Call::Offer(name, size(word)))
 }
 
 pub fn writes(alloc: Global, key: ChannelKey, bytes: &[u8]) -> Result<mux_items::Call, Fail> {
@@ -282,10 +277,10 @@ fn carries(
     (name, words): (&str, &str),
 ) -> Result<Option<mux_items::Call>, Fail> {
     Ok(Some(match name {
-        "accepts" => mux_items::Call::Accept(key, window(words)),
+        "accepts" => mux_items::Call::Accept(key, size(words)),
         "says" => writes(alloc, key, &framed(alloc, words)?)?,
         "begins" => writes(alloc, key, &broken_off(alloc, words)?)?,
-        "reads" => mux_items::Call::Read(key, window(words)),
+        "reads" => mux_items::Call::Read(key, size(words)),
         "completes" => mux_items::Call::Complete(key),
         "terminates" => mux_items::Call::Terminate(key),
         _ => return Ok(None),

@@ -183,7 +183,7 @@ fn is_passed(
 ) -> Result<(), Fail> {
     let told = passing(alloc, framing, encoding)?;
     let wanted =
-        "asked 1 make list 1; answered 1; asked 2 object 7 by 1 bump list 1; asked 1 object 8 by 1 look absent; released 1; ";
+        "asked 1 make list 1; answered 1; asked 2 bump list 1 of object 7 by 1; asked 1 look absent of object 8 by 1; released own 1; ";
     is_told(rt, told.as_str(), wanted);
     Ok(())
 }

@@ -24,5 +24,3 @@ mod refusing;
 mod rows;
 #[cfg(test)]
 mod sequences;
-#[cfg(test)]
-mod values;

@@ -15,8 +15,8 @@ fn objects_get_handles_in_order(rt: HostRuntime) -> Result<(), Fail> {
         asks keep 5                                   | 2                  | {"id":2,"jsonrpc":"2.0","method":"keep","params":[5]}
         last-handle                                   | 4                  |
         handle own 0                                  | none               |
-        handle own 1                                  | live               |
-        handle own 4                                  | live               |
+        handle own 1                                  | lives              |
+        handle own 4                                  | lives              |
         handle own 5                                  | none               |
         handle peer 1                                 | none               |
         adopted 0                                     | none               |"#;
@@ -36,10 +36,10 @@ fn objects_are_adopted(rt: HostRuntime) -> Result<(), Fail> {
         adopted 3                                                                                     | 5                   |
         adopted 4                                                                                     | 9223372036854775807 |
         adopted 5                                                                                     | none                |
-        handle peer 0                                                                                 | live                |
-        handle peer 3                                                                                 | live                |
-        handle peer 5                                                                                 | live                |
-        handle peer 9223372036854775807                                                               | live                |
+        handle peer 0                                                                                 | lives               |
+        handle peer 3                                                                                 | lives               |
+        handle peer 5                                                                                 | lives               |
+        handle peer 9223372036854775807                                                               | lives               |
         handle peer 1                                                                                 | none                |
         handle own 5                                                                                  | none                |
         last-handle                                                                                   | 0                   |"#;
@@ -93,21 +93,21 @@ fn messages_that_offer_less(rt: HostRuntime) -> Result<(), Fail> {
 #[test]
 fn own_handles_end_with_a_response(rt: HostRuntime) -> Result<(), Fail> {
     let rows = r#"
-        asks run call:7 explicit:8                                        | 1                                   | {"id":1,"jsonrpc":"2.0","method":"run","params":[{"__jsonrpc_marshaled":1,"handle":1,"lifetime":"call"},{"__jsonrpc_marshaled":1,"handle":2,"lifetime":"explicit"}]}
-        asks run call:7                                                   | 2                                   | {"id":2,"jsonrpc":"2.0","method":"run","params":[{"__jsonrpc_marshaled":1,"handle":3,"lifetime":"call"}]}
-        comes {"id":"a","jsonrpc":"2.0","method":"$/invokeProxy/1/poke"}  | asked "a" object 7 by 1 poke absent |
-        comes {"id":7,"jsonrpc":"2.0","result":0}                         | stray                               |
-        handle own 1                                                      | live                                |
-        comes {"id":1,"jsonrpc":"2.0","result":0}                         | answered 1                          |
-        handle own 1                                                      | released                            |
-        handle own 2                                                      | live                                |
-        handle own 3                                                      | live                                |
-        comes {"id":"b","jsonrpc":"2.0","method":"$/invokeProxy/1/poke"}  | handled $/invokeProxy/1/poke        | {"error":{"code":-32001,"message":"no object"},"id":"b","jsonrpc":"2.0"}
-        comes {"id":"c","jsonrpc":"2.0","method":"$/invokeProxy/2/poke"}  | asked "c" object 8 by 2 poke absent |
-        comes {"error":{"code":-1,"message":"no"},"id":2,"jsonrpc":"2.0"} | answered 2                          |
-        handle own 3                                                      | released                            |
-        handle own 2                                                      | live                                |
-        answers "a" 5                                                     | ok                                  | {"id":"a","jsonrpc":"2.0","result":5}"#;
+        asks run call:7 explicit:8                                        | 1                                      | {"id":1,"jsonrpc":"2.0","method":"run","params":[{"__jsonrpc_marshaled":1,"handle":1,"lifetime":"call"},{"__jsonrpc_marshaled":1,"handle":2,"lifetime":"explicit"}]}
+        asks run call:7                                                   | 2                                      | {"id":2,"jsonrpc":"2.0","method":"run","params":[{"__jsonrpc_marshaled":1,"handle":3,"lifetime":"call"}]}
+        comes {"id":"a","jsonrpc":"2.0","method":"$/invokeProxy/1/poke"}  | asked "a" poke absent of object 7 by 1 |
+        comes {"id":7,"jsonrpc":"2.0","result":0}                         | stray                                  |
+        handle own 1                                                      | lives                                  |
+        comes {"id":1,"jsonrpc":"2.0","result":0}                         | answered 1                             |
+        handle own 1                                                      | ended                                  |
+        handle own 2                                                      | lives                                  |
+        handle own 3                                                      | lives                                  |
+        comes {"id":"b","jsonrpc":"2.0","method":"$/invokeProxy/1/poke"}  | handled $/invokeProxy/1/poke           | {"error":{"code":-32001,"message":"no object"},"id":"b","jsonrpc":"2.0"}
+        comes {"id":"c","jsonrpc":"2.0","method":"$/invokeProxy/2/poke"}  | asked "c" poke absent of object 8 by 2 |
+        comes {"error":{"code":-1,"message":"no"},"id":2,"jsonrpc":"2.0"} | answered 2                             |
+        handle own 3                                                      | ended                                  |
+        handle own 2                                                      | lives                                  |
+        answers "a" 5                                                     | ok                                     | {"id":"a","jsonrpc":"2.0","result":5}"#;
     a_life(&rt, rt.alloc(), rows)
 }
 
@@ -120,14 +120,14 @@ fn peer_handles_end_with_a_response(rt: HostRuntime) -> Result<(), Fail> {
         answers 5 bytes                                                                                                                                      | BytesInJson          |
         invokes 3 poke                                                                                                                                       | 1                    | {"id":1,"jsonrpc":"2.0","method":"$/invokeProxy/3/poke"}
         answers 5 0                                                                                                                                          | ok                   | {"id":5,"jsonrpc":"2.0","result":0}
-        handle peer 3                                                                                                                                        | released             |
-        handle peer 4                                                                                                                                        | live                 |
-        handle peer 6                                                                                                                                        | live                 |
+        handle peer 3                                                                                                                                        | ended                |
+        handle peer 4                                                                                                                                        | lives                |
+        handle peer 6                                                                                                                                        | lives                |
         invokes 3 poke                                                                                                                                       | Released             |
         invokes 4 poke                                                                                                                                       | 2                    | {"id":2,"jsonrpc":"2.0","method":"$/invokeProxy/4/poke"}
         fails "5" -1                                                                                                                                         | ok                   | {"error":{"code":-1,"message":"no"},"id":"5","jsonrpc":"2.0"}
-        handle peer 6                                                                                                                                        | released             |
-        handle peer 4                                                                                                                                        | live                 |"#;
+        handle peer 6                                                                                                                                        | ended                |
+        handle peer 4                                                                                                                                        | lives                |"#;
     a_life(&rt, rt.alloc(), rows)
 }
 
@@ -139,17 +139,17 @@ fn a_handle_is_adopted_once(rt: HostRuntime) -> Result<(), Fail> {
         comes {"id":5,"jsonrpc":"2.0","method":"run","params":[{"__jsonrpc_marshaled":1,"handle":3},{"__jsonrpc_marshaled":1,"handle":3,"lifetime":"call"},{"__jsonrpc_marshaled":1,"handle":4,"lifetime":"call"}]} | asked 5 run list 3               |
         comes {"id":6,"jsonrpc":"2.0","method":"run","params":[{"__jsonrpc_marshaled":1,"handle":4}]}           | asked 6 run list 1               |
         answers 5 0                                                                                             | ok                               | {"id":5,"jsonrpc":"2.0","result":0}
-        handle peer 3                                                                                           | live                             |
-        handle peer 4                                                                                           | released                         |
+        handle peer 3                                                                                           | lives                            |
+        handle peer 4                                                                                           | ended                            |
         comes {"id":7,"jsonrpc":"2.0","method":"run","params":[{"__jsonrpc_marshaled":1,"handle":4}]}           | asked 7 run list 1               |
-        handle peer 4                                                                                           | released                         |
+        handle peer 4                                                                                           | ended                            |
         invokes 4 poke                                                                                          | Released                         |
         comes {"jsonrpc":"2.0","method":"$/releaseMarshaledObject","params":{"handle":3,"ownedBySender":false}} | handled $/releaseMarshaledObject |
-        handle peer 3                                                                                           | live                             |
+        handle peer 3                                                                                           | lives                            |
         comes {"jsonrpc":"2.0","method":"$/releaseMarshaledObject","params":{"handle":3,"ownedBySender":true}}  | handled $/releaseMarshaledObject |
-        handle peer 3                                                                                           | released                         |
+        handle peer 3                                                                                           | ended                            |
         comes {"jsonrpc":"2.0","method":"log","params":[{"__jsonrpc_marshaled":1,"handle":3}]}                  | told log list 1                  |
-        handle peer 3                                                                                           | released                         |"#;
+        handle peer 3                                                                                           | ended                            |"#;
     a_life(&rt, rt.alloc(), rows)
 }
 
@@ -163,13 +163,13 @@ fn handles_are_released_once(rt: HostRuntime) -> Result<(), Fail> {
         releases own 1                                                                                          | ok                               | {"jsonrpc":"2.0","method":"$/releaseMarshaledObject","params":{"handle":1,"ownedBySender":true}}
         releases own 1                                                                                          | Released                         |
         comes {"jsonrpc":"2.0","method":"$/releaseMarshaledObject","params":{"handle":1,"ownedBySender":false}} | handled $/releaseMarshaledObject |
-        comes {"jsonrpc":"2.0","method":"$/releaseMarshaledObject","params":[2,false]}                          | released 2                       |
+        comes {"jsonrpc":"2.0","method":"$/releaseMarshaledObject","params":[2,false]}                          | released own 2                   |
         releases own 2                                                                                          | Released                         |
         comes {"jsonrpc":"2.0","method":"$/releaseMarshaledObject","params":[2,false]}                          | handled $/releaseMarshaledObject |
-        handle own 1                                                                                            | released                         |
-        handle own 2                                                                                            | released                         |
+        handle own 1                                                                                            | ended                            |
+        handle own 2                                                                                            | ended                            |
         asks keep explicit:7                                                                                    | 2                                | {"id":2,"jsonrpc":"2.0","method":"keep","params":[{"__jsonrpc_marshaled":1,"handle":3,"lifetime":"explicit"}]}
-        handle own 3                                                                                            | live                             |"#;
+        handle own 3                                                                                            | lives                            |"#;
     let peer = r#"
         comes {"id":5,"jsonrpc":"2.0","method":"run","params":[{"__jsonrpc_marshaled":1,"handle":1},{"__jsonrpc_marshaled":1,"handle":2,"lifetime":"call"}]} | asked 5 run list 2               |
         releases peer 3                                                                                                                                      | NoHandle                         |
@@ -181,8 +181,8 @@ fn handles_are_released_once(rt: HostRuntime) -> Result<(), Fail> {
         releases peer 1                                                                                                                                      | Released                         |
         invokes 1 poke                                                                                                                                       | Released                         |
         comes {"jsonrpc":"2.0","method":"$/releaseMarshaledObject","params":{"handle":1,"ownedBySender":true}}                                               | handled $/releaseMarshaledObject |
-        handle peer 1                                                                                                                                        | released                         |
-        handle peer 2                                                                                                                                        | released                         |"#;
+        handle peer 1                                                                                                                                        | ended                            |
+        handle peer 2                                                                                                                                        | ended                            |"#;
     a_life(&rt, rt.alloc(), own)?;
     a_life(&rt, rt.alloc(), peer)
 }
@@ -203,10 +203,10 @@ fn releases_of_the_peer(rt: HostRuntime) -> Result<(), Fail> {
         comes {"jsonrpc":"2.0","method":"$/releaseMarshaledObject","params":[2,false]}                                 | handled $/releaseMarshaledObject |
         comes {"id":6,"jsonrpc":"2.0","method":"$/releaseMarshaledObject","params":[1]}                                | handled $/releaseMarshaledObject | {"error":{"code":-32602,"message":"bad arguments"},"id":6,"jsonrpc":"2.0"}
         comes {"id":7,"jsonrpc":"2.0","method":"$/releaseMarshaledObject","params":[2,false]}                          | handled $/releaseMarshaledObject | {"id":7,"jsonrpc":"2.0","result":null}
-        handle own 1                                                                                                   | live                             |
-        comes {"id":8,"jsonrpc":"2.0","method":"$/releaseMarshaledObject","params":{"handle":1,"ownedBySender":false}} | released 1                       | {"id":8,"jsonrpc":"2.0","result":null}
+        handle own 1                                                                                                   | lives                            |
+        comes {"id":8,"jsonrpc":"2.0","method":"$/releaseMarshaledObject","params":{"handle":1,"ownedBySender":false}} | released own 1                   | {"id":8,"jsonrpc":"2.0","result":null}
         comes {"id":9,"jsonrpc":"2.0","method":"$/releaseMarshaledObject","params":{"handle":1,"ownedBySender":false}} | handled $/releaseMarshaledObject | {"id":9,"jsonrpc":"2.0","result":null}
-        handle own 1                                                                                                   | released                         |"#;
+        handle own 1                                                                                                   | ended                            |"#;
     a_life(&rt, rt.alloc(), rows)
 }
 
@@ -215,15 +215,15 @@ fn releases_of_the_peer(rt: HostRuntime) -> Result<(), Fail> {
 #[test]
 fn the_peer_calls_objects(rt: HostRuntime) -> Result<(), Fail> {
     let rows = r#"
-        asks keep explicit:70                                                                                                            | 1                                  | {"id":1,"jsonrpc":"2.0","method":"keep","params":[{"__jsonrpc_marshaled":1,"handle":1,"lifetime":"explicit"}]}
-        comes {"id":1,"jsonrpc":"2.0","method":"$/invokeProxy/1/poke","params":[{"__jsonrpc_marshaled":1,"handle":5,"lifetime":"call"}]} | asked 1 object 70 by 1 poke list 1 |
-        comes {"id":2,"jsonrpc":"2.0","method":"$/invokeProxy/1/a/b"}                                                                    | asked 2 object 70 by 1 a/b absent  |
-        comes {"id":3,"jsonrpc":"2.0","method":"$/invokeProxy/1/$/x","params":{"a":1}}                                                   | asked 3 object 70 by 1 $/x named 1 |
-        comes {"id":4,"jsonrpc":"2.0","method":"$/invokeProxy/0000000000000000001/poke"}                                                 | asked 4 object 70 by 1 poke absent |
-        handle peer 5                                                                                                                    | live                               |
-        answers 1 0                                                                                                                      | ok                                 | {"id":1,"jsonrpc":"2.0","result":0}
-        handle peer 5                                                                                                                    | released                           |
-        comes {"id":2,"jsonrpc":"2.0","method":"run"}                                                                                    | refused 72 at 343                  |"#;
+        asks keep explicit:70                                                                                                            | 1                                     | {"id":1,"jsonrpc":"2.0","method":"keep","params":[{"__jsonrpc_marshaled":1,"handle":1,"lifetime":"explicit"}]}
+        comes {"id":1,"jsonrpc":"2.0","method":"$/invokeProxy/1/poke","params":[{"__jsonrpc_marshaled":1,"handle":5,"lifetime":"call"}]} | asked 1 poke list 1 of object 70 by 1 |
+        comes {"id":2,"jsonrpc":"2.0","method":"$/invokeProxy/1/a/b"}                                                                    | asked 2 a/b absent of object 70 by 1  |
+        comes {"id":3,"jsonrpc":"2.0","method":"$/invokeProxy/1/$/x","params":{"a":1}}                                                   | asked 3 $/x named 1 of object 70 by 1 |
+        comes {"id":4,"jsonrpc":"2.0","method":"$/invokeProxy/0000000000000000001/poke"}                                                 | asked 4 poke absent of object 70 by 1 |
+        handle peer 5                                                                                                                    | lives                                 |
+        answers 1 0                                                                                                                      | ok                                    | {"id":1,"jsonrpc":"2.0","result":0}
+        handle peer 5                                                                                                                    | ended                                 |
+        comes {"id":2,"jsonrpc":"2.0","method":"run"}                                                                                    | refused 72 at 343                     |"#;
     a_life(&rt, rt.alloc(), rows)
 }
 
@@ -265,7 +265,7 @@ fn objects_of_the_peer_are_called(rt: HostRuntime) -> Result<(), Fail> {
         invokes 3 $/x a=5                                                                                                                                    | 2                  | {"id":2,"jsonrpc":"2.0","method":"$/invokeProxy/3/$/x","params":{"a":5}}
         comes {"id":1,"jsonrpc":"2.0","result":5}                                                                                                            | answered 1         |
         outcome 1                                                                                                                                            | 5                  |
-        handle own 1                                                                                                                                         | released           |
+        handle own 1                                                                                                                                         | ended              |
         cancels 2                                                                                                                                            | ok                 | {"jsonrpc":"2.0","method":"$/cancelRequest","params":{"id":2}}"#;
     a_life(&rt, rt.alloc(), rows)
 }
@@ -301,8 +301,8 @@ fn handles_rest_after_the_end(rt: HostRuntime) -> Result<(), Fail> {
         asks keep explicit:7                                                                          | 1                  | {"id":1,"jsonrpc":"2.0","method":"keep","params":[{"__jsonrpc_marshaled":1,"handle":1,"lifetime":"explicit"}]}
         comes {"id":5,"jsonrpc":"2.0","method":"run","params":[{"__jsonrpc_marshaled":1,"handle":3}]} | asked 5 run list 1 |
         ends                                                                                          | ok                 |
-        handle own 1                                                                                  | released           |
-        handle peer 3                                                                                 | released           |
+        handle own 1                                                                                  | ended              |
+        handle peer 3                                                                                 | ended              |
         last-handle                                                                                   | 1                  |
         adopted 0                                                                                     | 3                  |
         invokes 3 poke                                                                                | Ended(InputEnded)  |

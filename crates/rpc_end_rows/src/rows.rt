@@ -1,14 +1,12 @@
 //! Rows of text, and the end that lives through them.
 
-use crate::answers::{
-    of_call, of_drawn, of_look, of_number, of_report, of_standing, of_state, of_step, word,
-};
-use crate::values::{call_of, count, id_of, key_of, number, size, value, values};
+use crate::answers::{of_call, of_drawn, of_look, of_number, of_report, of_step};
+use row_words::{call_of, count, handle_of, id_of, number, of_life, of_state, size, value, word};
 use rpc_end::{Answer, Encoding, Expect, Framing, RpcEnd};
 use std::alloc::Global;
 use std::process::Abort;
 use std::test::Fail;
-use wire_base::{Cause, Text};
+use wire_base::{Cause, DatumList, Text};
 
 pub fn start(alloc: Global, framing: Framing, encoding: Encoding) -> RpcEnd {
     RpcEnd::new(alloc, framing, encoding)
@@ -74,6 +72,17 @@ fn seeks(alloc: Global, end: &mut RpcEnd, words: &str) -> Result<String, Fail> {
     of_drawn(alloc, end.request(&method, args, Expect::Sequence))
 }
 
+/// The values that words stand for.
+fn values(alloc: Global, words: &str) -> Result<DatumList, Fail> {
+    let mut list = DatumList::new(alloc);
+    for word in words.split(' ') {
+        if !word.is_empty() {
+            list.push(value(alloc, word)?)?;
+        }
+    }
+    Ok(list)
+}
+
 fn begins(
     alloc: Global,
     end: &mut RpcEnd,
@@ -112,7 +121,7 @@ fn invokes(alloc: Global, end: &mut RpcEnd, words: &str) -> Result<String, Fail>
 }
 
 fn releases(alloc: Global, end: &mut RpcEnd, words: &str) -> Result<String, Fail> {
-    of_call(alloc, end.release(key_of(words)))
+    of_call(alloc, end.release(handle_of(words)))
 }
 
 /// The words are the id of a request, and an object.
@@ -181,7 +190,7 @@ fn last_handle(alloc: Global, end: &RpcEnd) -> Result<String, Fail> {
 }
 
 fn handle(alloc: Global, end: &RpcEnd, words: &str) -> Result<String, Fail> {
-    of_standing(alloc, end.handle(key_of(words)))
+    of_life(alloc, end.handle(handle_of(words)))
 }
 
 /// The handle at a place among those that were adopted.
