@@ -4,7 +4,7 @@ use row_words::{of_cause, of_event, of_outcome, of_value, word};
 use rpc_end::{Look, RpcStep};
 use std::alloc::Global;
 use std::test::Fail;
-use wire_base::{CallFault, Datum};
+use wire_base::{CallFault, Datum, OutOfMemory};
 
 fn of_fault(alloc: Global, fault: CallFault) -> Result<String, Fail> {
     match fault {
@@ -56,4 +56,9 @@ pub fn of_look(alloc: Global, look: Look<'_>) -> Result<String, Fail> {
         Look::NotYet => word(alloc, "not yet"),
         Look::NoRequest => word(alloc, "no request"),
     }
+}
+
+/// Whether a whole message waits.
+pub fn of_whole(alloc: Global, answer: Result<bool, OutOfMemory>) -> Result<String, Fail> {
+    Ok(format!(in alloc; "{answer:?}")?)
 }

@@ -1,7 +1,9 @@
 //! Whole exchanges: what an editor says to a language server, and calls between two ends.
 
 use crate::pieces::{comes, split};
-use crate::rows::{self, a_life_in, framed, happens, is_told, outcome, sent, start};
+use crate::rows::{self, a_life_in, framed, is_sent, is_told, parts, start, take_all};
+use crate::words::happens;
+use row_words::size;
 use rpc_end::{Encoding, Framing, RpcEnd};
 use std::alloc::Global;
 use std::process::Abort;
@@ -46,12 +48,17 @@ fn hears(
     Ok(())
 }
 
-/// What a server hears of a stream that comes in pieces of random sizes up to this one.
-fn heard(alloc: Global, stream: &[u8], pieces: (usize, u64)) -> Result<String, Fail> {
-    let mut server = start(alloc, Framing::Header, Encoding::Json);
+fn is_heard_by(
+    rt: &impl Abort,
+    alloc: Global,
+    server: &mut RpcEnd,
+    stream: &[u8],
+    pieces: (usize, u64),
+) -> Result<(), Fail> {
     let mut told = String::new(alloc);
-    hears(alloc, &mut server, stream, pieces, &mut told)?;
-    Ok(told)
+    hears(alloc, server, stream, pieces, &mut told)?;
+    is_told(rt, told.as_str(), HEARD, "an exchange");
+    Ok(())
 }
 
 fn is_heard(
@@ -60,20 +67,31 @@ fn is_heard(
     stream: &[u8],
     pieces: (usize, u64),
 ) -> Result<(), Fail> {
-    let told = heard(alloc, stream, pieces)?;
-    is_told(rt, told.as_str(), HEARD);
+    let mut server = start(alloc, Framing::Header, Encoding::Json);
+    is_heard_by(rt, alloc, &mut server, stream, pieces)
+}
+
+fn is_heard_up_to(rt: &impl Abort, alloc: Global, stream: &[u8], most: usize) -> Result<(), Fail> {
+    for seed in 0..4 {
+        is_heard(rt, alloc, stream, (most, seed))?;
+    }
+    Ok(())
+}
+
+/// The greatest sizes of pieces.
+const SIZES: &str = "1 2 3 5 10 20 50 100 200 512";
+
+fn is_heard_in_pieces(rt: &impl Abort, alloc: Global, stream: &[u8]) -> Result<(), Fail> {
+    for most in SIZES.split(' ') {
+        is_heard_up_to(rt, alloc, stream, size(most) as usize)?;
+    }
     Ok(())
 }
 
 #[test]
 fn an_exchange_is_heard_in_random_pieces(rt: HostRuntime) -> Result<(), Fail> {
     let stream = framed(rt.alloc(), Framing::Header, EXCHANGE)?;
-    for most in [1, 2, 3, 5, 10, 20, 50, 100, 200, 512] {
-        for seed in 0..4 {
-            is_heard(&rt, rt.alloc(), &stream, (most, seed))?;
-        }
-    }
-    Ok(())
+    is_heard_in_pieces(&rt, rt.alloc(), &stream)
 }
 
 /// The server answers each message of an exchange as it comes, and the one that was taken back with an error.
@@ -96,112 +114,138 @@ fn a_language_server_answers(rt: HostRuntime) -> Result<(), Fail> {
     a_life_in(&rt, rt.alloc(), Framing::Header, rows)
 }
 
-/// One end makes this call, and what it says comes to the other one.
-fn says_to(
+fn is_answered(
+    rt: &impl Abort,
     alloc: Global,
-    from: &mut RpcEnd,
-    to: &mut RpcEnd,
+    end: &mut RpcEnd,
     call: &str,
-    told: &mut String,
+    wanted: &str,
 ) -> Result<(), Fail> {
-    happens(alloc, from, call)?;
-    let bytes = sent(alloc, from)?;
-    comes(alloc, to, &bytes, told)
-}
-
-/// Tells what an end hears of a call and the other one of its answer, and what became of the request.
-fn converse(
-    alloc: Global,
-    client: &mut RpcEnd,
-    server: &mut RpcEnd,
-    told: &mut String,
-) -> Result<(), Fail> {
-    says_to(alloc, client, server, "asks add 2 3", told)?;
-    says_to(alloc, server, client, "answers 1 5", told)?;
-    told.push_str(outcome(alloc, client, 1)?.as_str())?;
+    let answer = happens(alloc, end, call)?;
+    is_told(rt, answer.as_str(), wanted, call);
     Ok(())
 }
 
-fn conversation(alloc: Global, client: &mut RpcEnd, server: &mut RpcEnd) -> Result<String, Fail> {
+fn is_heard_of(
+    rt: &impl Abort,
+    alloc: Global,
+    end: &mut RpcEnd,
+    bytes: &[u8],
+    wanted: &str,
+) -> Result<(), Fail> {
     let mut told = String::new(alloc);
-    converse(alloc, client, server, &mut told)?;
-    Ok(told)
+    comes(alloc, end, bytes, &mut told)?;
+    is_told(rt, told.as_str().trim_end_matches("; "), wanted, "hearing");
+    Ok(())
 }
 
-fn between(alloc: Global, framing: Framing, encoding: Encoding) -> Result<String, Fail> {
-    let mut client = start(alloc, framing, encoding);
-    let mut server = start(alloc, framing, encoding);
-    conversation(alloc, &mut client, &mut server)
+/// What an end has to send comes to the other one, which hears this of it.
+fn passes(
+    rt: &impl Abort,
+    alloc: Global,
+    from: &mut RpcEnd,
+    to: &mut RpcEnd,
+    wanted: &str,
+) -> Result<(), Fail> {
+    is_heard_of(rt, alloc, to, from.pending_output(), wanted)?;
+    take_all(from);
+    Ok(())
 }
 
-fn is_answered(
+/// The call of one end, its answer, and what the other end hears of it.
+fn says_to(
+    rt: &impl Abort,
+    alloc: Global,
+    from: &mut RpcEnd,
+    to: &mut RpcEnd,
+    row: &str,
+) -> Result<(), Fail> {
+    let (call, others) = parts(row);
+    let (wanted, heard) = parts(others);
+    is_answered(rt, alloc, from, call, wanted)?;
+    passes(rt, alloc, from, to, heard)
+}
+
+/// A row is a side, its call, what that answers, and what the other side hears of it.
+fn converses_once(
+    rt: &impl Abort,
+    alloc: Global,
+    client: &mut RpcEnd,
+    server: &mut RpcEnd,
+    row: &str,
+) -> Result<(), Fail> {
+    match row.split_once(' ') {
+        Some(("client", row)) => says_to(rt, alloc, client, server, row),
+        Some(("server", row)) => says_to(rt, alloc, server, client, row),
+        _ => Ok(()),
+    }
+}
+
+fn converse(
+    rt: &impl Abort,
+    alloc: Global,
+    client: &mut RpcEnd,
+    server: &mut RpcEnd,
+    rows: &str,
+) -> Result<(), Fail> {
+    for row in rows.lines() {
+        converses_once(rt, alloc, client, server, row.trim())?;
+    }
+    Ok(())
+}
+
+fn between(
     rt: &impl Abort,
     alloc: Global,
     framing: Framing,
     encoding: Encoding,
+    rows: &str,
 ) -> Result<(), Fail> {
-    let told = between(alloc, framing, encoding)?;
-    is_told(rt, told.as_str(), "asked 1 add list 2; answered 1; 5");
-    Ok(())
+    let mut client = start(alloc, framing, encoding);
+    let mut server = start(alloc, framing, encoding);
+    converse(rt, alloc, &mut client, &mut server, rows)
+}
+
+/// Two ends live through the rows by either framing, in either encoding.
+fn in_every_form(rt: &impl Abort, alloc: Global, rows: &str) -> Result<(), Fail> {
+    between(rt, alloc, Framing::Header, Encoding::Json, rows)?;
+    between(rt, alloc, Framing::Header, Encoding::Pack, rows)?;
+    between(rt, alloc, Framing::Length, Encoding::Json, rows)?;
+    between(rt, alloc, Framing::Length, Encoding::Pack, rows)
 }
 
 #[test]
 fn a_call_is_answered_in_every_form(rt: HostRuntime) -> Result<(), Fail> {
-    is_answered(&rt, rt.alloc(), Framing::Header, Encoding::Json)?;
-    is_answered(&rt, rt.alloc(), Framing::Header, Encoding::Pack)?;
-    is_answered(&rt, rt.alloc(), Framing::Length, Encoding::Json)?;
-    is_answered(&rt, rt.alloc(), Framing::Length, Encoding::Pack)
+    let rows = "
+        client asks add 2 3 | 1  | asked 1 add list 2
+        server answers 1 5  | ok | answered 1
+        client outcome 1    | 5  |";
+    in_every_form(&rt, rt.alloc(), rows)
 }
 
-/// Tells what the ends hear as one hands out an object, and the other one calls it.
-fn pass_an_object(
-    alloc: Global,
-    client: &mut RpcEnd,
-    server: &mut RpcEnd,
-    told: &mut String,
-) -> Result<(), Fail> {
-    says_to(alloc, client, server, "asks make 5", told)?;
-    says_to(alloc, server, client, "gives 1 7", told)?;
-    says_to(alloc, client, server, "invokes 1 bump call:8", told)?;
-    says_to(alloc, server, client, "invokes 1 look", told)?;
-    says_to(alloc, client, server, "releases peer 1", told)
+/// One end hands out an object, and the other one calls it.
+#[test]
+fn an_object_is_passed_in_every_form(rt: HostRuntime) -> Result<(), Fail> {
+    let rows = "
+        client asks make 5           | 1  | asked 1 make list 1
+        server gives 1 7             | ok | answered 1
+        client invokes 1 bump call:8 | 2  | asked 2 bump list 1 of object 7 by 1
+        server invokes 1 look        | 1  | asked 1 look absent of object 8 by 1
+        client releases peer 1       | ok | released own 1";
+    in_every_form(&rt, rt.alloc(), rows)
 }
 
-fn passing(alloc: Global, framing: Framing, encoding: Encoding) -> Result<String, Fail> {
-    let mut client = start(alloc, framing, encoding);
-    let mut server = start(alloc, framing, encoding);
-    let mut told = String::new(alloc);
-    pass_an_object(alloc, &mut client, &mut server, &mut told)?;
-    Ok(told)
-}
-
-fn is_passed(
-    rt: &impl Abort,
-    alloc: Global,
-    framing: Framing,
-    encoding: Encoding,
-) -> Result<(), Fail> {
-    let told = passing(alloc, framing, encoding)?;
-    let wanted =
-        "asked 1 make list 1; answered 1; asked 2 bump list 1 of object 7 by 1; asked 1 look absent of object 8 by 1; released own 1; ";
-    is_told(rt, told.as_str(), wanted);
+fn does(alloc: Global, end: &mut RpcEnd, call: &str) -> Result<(), Fail> {
+    happens(alloc, end, call)?;
     Ok(())
 }
 
-#[test]
-fn an_object_is_passed_in_every_form(rt: HostRuntime) -> Result<(), Fail> {
-    is_passed(&rt, rt.alloc(), Framing::Header, Encoding::Json)?;
-    is_passed(&rt, rt.alloc(), Framing::Header, Encoding::Pack)?;
-    is_passed(&rt, rt.alloc(), Framing::Length, Encoding::Json)?;
-    is_passed(&rt, rt.alloc(), Framing::Length, Encoding::Pack)
-}
-
-/// All that an end says with these two calls.
-fn said(alloc: Global, end: &mut RpcEnd, calls: [&str; 2]) -> Result<Vec<u8>, Fail> {
-    let [first, second] = calls;
-    happens(alloc, end, first)?;
-    happens(alloc, end, second)?;
-    sent(alloc, end)
+/// All that an end says with a request and a notification are these bytes.
+fn says_by(rt: &impl Abort, alloc: Global, end: &mut RpcEnd, bytes: &[u8]) -> Result<(), Fail> {
+    does(alloc, end, "asks add 2 3")?;
+    does(alloc, end, "tells log")?;
+    is_sent(rt, end, bytes, "two calls");
+    Ok(())
 }
 
 /// A request and a notification are said in these bytes.
@@ -213,9 +257,7 @@ fn says(
     bytes: &[u8],
 ) -> Result<(), Fail> {
     let mut end = start(alloc, framing, encoding);
-    let said = said(alloc, &mut end, ["asks add 2 3", "tells log"])?;
-    assert_eq!(rt; said.as_slice(), bytes);
-    Ok(())
+    says_by(rt, alloc, &mut end, bytes)
 }
 
 #[test]
@@ -241,19 +283,29 @@ fn calls_are_said_in_messagepack(rt: HostRuntime) -> Result<(), Fail> {
 /// A request with the id 7, in MessagePack.
 const RUN: &[u8] = b"\0\0\0\x1c\x83\xa7jsonrpc\xa32.0\xa2id\x07\xa6method\xa3run";
 
-/// What an end says that hears the request and then makes this call.
-fn answered(alloc: Global, end: &mut RpcEnd, call: &str) -> Result<Vec<u8>, Fail> {
+fn hears_run(alloc: Global, end: &mut RpcEnd) -> Result<(), Fail> {
     rows::comes(alloc, end, RUN)?;
-    happens(alloc, end, call)?;
-    sent(alloc, end)
+    Ok(())
+}
+
+/// An end hears the request, and all that it says with this call are these bytes.
+fn answers_by(
+    rt: &impl Abort,
+    alloc: Global,
+    end: &mut RpcEnd,
+    call: &str,
+    bytes: &[u8],
+) -> Result<(), Fail> {
+    hears_run(alloc, end)?;
+    does(alloc, end, call)?;
+    is_sent(rt, end, bytes, call);
+    Ok(())
 }
 
 /// The request is answered by this call in these bytes.
 fn answers(rt: &impl Abort, alloc: Global, call: &str, bytes: &[u8]) -> Result<(), Fail> {
     let mut end = start(alloc, Framing::Length, Encoding::Pack);
-    let said = answered(alloc, &mut end, call)?;
-    assert_eq!(rt; said.as_slice(), bytes, "at {call}");
-    Ok(())
+    answers_by(rt, alloc, &mut end, call, bytes)
 }
 
 #[test]

@@ -24,3 +24,5 @@ mod refusing;
 mod rows;
 #[cfg(test)]
 mod sequences;
+#[cfg(test)]
+mod words;

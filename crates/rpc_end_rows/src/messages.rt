@@ -1,6 +1,6 @@
 //! What the messages of a peer are to an end.
 
-use crate::rows::a_life;
+use crate::rows::{a_life, lives_apart};
 use std::test::Fail;
 
 /// A second response to a request, and one to none, change nothing.
@@ -49,16 +49,13 @@ fn examples_of_the_specification(rt: HostRuntime) -> Result<(), Fail> {
     a_life(&rt, rt.alloc(), responses)
 }
 
+/// Each comes to a fresh end.
 #[test]
 fn examples_that_are_refused(rt: HostRuntime) -> Result<(), Fail> {
-    let rows = [
-        r#"comes {"jsonrpc": "2.0", "method": "foobar, "params": "bar", "baz] | refused 8 at 4 |"#,
-        r#"comes {"jsonrpc": "2.0", "method": 1, "params": "bar"}             | refused 63 at 4 |"#,
-        r#"comes []                                                           | refused 67 at 4 |"#,
-        r#"comes [1,2,3]                                                      | refused 67 at 4 |"#,
-    ];
-    for row in rows {
-        a_life(&rt, rt.alloc(), row)?;
-    }
-    Ok(())
+    let rows = r#"
+        comes {"jsonrpc": "2.0", "method": "foobar, "params": "bar", "baz] | refused 8 at 4  |
+        comes {"jsonrpc": "2.0", "method": 1, "params": "bar"}             | refused 63 at 4 |
+        comes []                                                           | refused 67 at 4 |
+        comes [1,2,3]                                                      | refused 67 at 4 |"#;
+    lives_apart(&rt, rt.alloc(), rows)
 }

@@ -1,25 +1,34 @@
 //! Streams that come in pieces.
 
-use crate::rows::{a_life, feeds, is_told, start, steps};
+use crate::rows::{a_life, is_told, start};
+use crate::words::{feeds, steps};
 use rpc_end::{Encoding, Framing, RpcEnd};
 use std::alloc::Global;
 use std::process::Abort;
 use std::test::Fail;
 
-fn tell(told: &mut String, word: &str) -> Result<(), Fail> {
+fn push(told: &mut String, word: &str) -> Result<(), Fail> {
     told.push_str(word)?;
-    told.push_str("; ")?;
     Ok(())
 }
 
-/// Tells what a step was, unless no message is whole.
+fn tell(told: &mut String, word: &str) -> Result<(), Fail> {
+    push(told, word)?;
+    push(told, "; ")
+}
+
+/// Tells what a step was, unless no message was whole, and answers whether another may be.
+fn tell_step(told: &mut String, step: &str) -> Result<bool, Fail> {
+    if step == "Short" {
+        return Ok(false);
+    }
+    tell(told, step)?;
+    Ok(true)
+}
+
 fn hears_one(alloc: Global, end: &mut RpcEnd, told: &mut String) -> Result<bool, Fail> {
     let step = steps(alloc, end)?;
-    let applies = step.as_str() != "Short";
-    if applies {
-        tell(told, step.as_str())?;
-    }
-    Ok(applies)
+    tell_step(told, step.as_str())
 }
 
 /// Takes steps while messages are applied, and tells what they were.
@@ -55,12 +64,30 @@ fn hears_cut(
     comes(alloc, end, rest, told)
 }
 
-/// What an end hears of a stream that is cut here.
-fn heard(alloc: Global, framing: Framing, stream: &[u8], at: usize) -> Result<String, Fail> {
-    let mut end = start(alloc, framing, Encoding::Json);
+/// An end hears this of a stream that comes in two parts.
+fn is_heard(
+    rt: &impl Abort,
+    alloc: Global,
+    end: &mut RpcEnd,
+    parts: (&[u8], &[u8]),
+    wanted: &str,
+) -> Result<(), Fail> {
     let mut told = String::new(alloc);
-    hears_cut(alloc, &mut end, split(stream, at), &mut told)?;
-    Ok(told)
+    hears_cut(alloc, end, parts, &mut told)?;
+    is_told(rt, told.as_str(), wanted, "a cut");
+    Ok(())
+}
+
+/// A fresh end hears this of a stream that is cut here.
+fn is_cut(
+    rt: &impl Abort,
+    alloc: Global,
+    framing: Framing,
+    (stream, at): (&[u8], usize),
+    wanted: &str,
+) -> Result<(), Fail> {
+    let mut end = start(alloc, framing, Encoding::Json);
+    is_heard(rt, alloc, &mut end, split(stream, at), wanted)
 }
 
 /// What is told of two messages that are cut here, where the first has so many bytes, and both so many.
@@ -83,8 +110,8 @@ fn is_cut_anywhere(
     first: usize,
 ) -> Result<(), Fail> {
     for at in 0..=stream.len() {
-        let told = heard(alloc, framing, stream, at)?;
-        is_told(rt, told.as_str(), foreseen(first, stream.len(), at));
+        let wanted = foreseen(first, stream.len(), at);
+        is_cut(rt, alloc, framing, (stream, at), wanted)?;
     }
     Ok(())
 }
