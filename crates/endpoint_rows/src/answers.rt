@@ -23,6 +23,30 @@ fn of_bytes(alloc: Global, bytes: &[u8]) -> Result<String, Fail> {
     Ok(format!(in alloc; "{} {bytes:?}", bytes.len())?)
 }
 
+/// Printable characters as they are, but the backslash, and each other byte by two digits behind `\x`.
+fn push_byte(text: &mut String, byte: u8) -> Result<(), Fail> {
+    match byte {
+        b'\\' => write!(text, "\\x{byte:02x}")?,
+        b' '..=b'~' => text.push(char::from(byte))?,
+        _ => write!(text, "\\x{byte:02x}")?,
+    }
+    Ok(())
+}
+
+fn push_output(text: &mut String, bytes: &[u8]) -> Result<(), Fail> {
+    for byte in bytes {
+        push_byte(text, *byte)?;
+    }
+    Ok(())
+}
+
+/// The bytes of an output.
+pub fn of_output(alloc: Global, bytes: &[u8]) -> Result<String, Fail> {
+    let mut text = String::new(alloc);
+    push_output(&mut text, bytes)?;
+    Ok(text)
+}
+
 pub fn of_reply(alloc: Global, side: &str, reply: &Reply) -> Result<String, Fail> {
     match reply {
         Reply::Done => word(alloc, "ok"),

@@ -1,9 +1,6 @@
 //! Calls between two ends.
 
-use crate::rows::{LIVE, a_life, fresh, lives, sent, start};
-use endpoint::Endpoint;
-use std::alloc::Global;
-use std::process::Abort;
+use crate::rows::{LIVE, a_life, a_life_in};
 use std::test::Fail;
 use wire_base::Version;
 
@@ -58,71 +55,38 @@ fn a_call_is_answered_in_every_form(rt: HostRuntime) -> Result<(), Fail> {
     Ok(())
 }
 
-fn is_sent(rt: &impl Abort, alloc: Global, end: &mut Endpoint, bytes: &[u8]) -> Result<(), Fail> {
-    let output = sent(alloc, end, bytes.len() + 1)?;
-    assert_eq!(rt; output.as_slice(), bytes);
-    Ok(())
-}
-
-/// A request, or its answer, goes in these bytes by an end that lives through the rows.
-fn goes_as(
-    rt: &impl Abort,
-    alloc: Global,
-    rows: &str,
-    asked: &[u8],
-    answered: &[u8],
-) -> Result<(), Fail> {
-    let (mut a, mut b) = (fresh(alloc)?, fresh(alloc)?);
-    lives(rt, alloc, &mut a, &mut b, LIVE)?;
-    lives(rt, alloc, &mut a, &mut b, rows)?;
-    is_sent(rt, alloc, &mut a, asked)?;
-    is_sent(rt, alloc, &mut b, answered)
-}
-
 #[test]
 fn calls_go_in_content_frames(rt: HostRuntime) -> Result<(), Fail> {
-    let in_pack = "
+    let in_pack = r#"
         A attaches A1 length pack | ok
         B attaches A1 header pack | ok
         A asks A1 add 2 3         | 1
-        B asks A1 add 2 3         | 1";
-    let in_json = "
+        B asks A1 add 2 3         | 1
+        A sends                   | \x94\x02\x01\x01\xc4*\x00\x00\x00&\x84\xa7jsonrpc\xa32.0\xa2id\x01\xa6method\xa3add\xa6params\x92\x02\x03
+        B sends                   | \x94\x02\x01\xff\xc4<Content-Length: 38\x0d\x0a\x0d\x0a\x84\xa7jsonrpc\xa32.0\xa2id\x01\xa6method\xa3add\xa6params\x92\x02\x03"#;
+    let in_json = r#"
         A attaches A1 length json | ok
         B attaches A1 header json | ok
         A asks A1 add 2 3         | 1
-        B asks A1 add 2 3         | 1";
-    goes_as(
-        &rt,
-        rt.alloc(),
-        in_pack,
-        b"\x94\x02\x01\x01\xc4\x2a\0\0\0\x26\x84\xa7jsonrpc\xa32.0\xa2id\x01\xa6method\xa3add\xa6params\x92\x02\x03",
-        b"\x94\x02\x01\xff\xc4\x3cContent-Length: 38\r\n\r\n\x84\xa7jsonrpc\xa32.0\xa2id\x01\xa6method\xa3add\xa6params\x92\x02\x03",
-    )?;
-    goes_as(
-        &rt,
-        rt.alloc(),
-        in_json,
-        b"\x94\x02\x01\x01\xc4\x3a\0\0\0\x36{\"id\":1,\"jsonrpc\":\"2.0\",\"method\":\"add\",\"params\":[2,3]}",
-        b"\x94\x02\x01\xff\xc4\x4cContent-Length: 54\r\n\r\n{\"id\":1,\"jsonrpc\":\"2.0\",\"method\":\"add\",\"params\":[2,3]}",
-    )
+        B asks A1 add 2 3         | 1
+        A sends                   | \x94\x02\x01\x01\xc4:\x00\x00\x006{"id":1,"jsonrpc":"2.0","method":"add","params":[2,3]}
+        B sends                   | \x94\x02\x01\xff\xc4LContent-Length: 54\x0d\x0a\x0d\x0a{"id":1,"jsonrpc":"2.0","method":"add","params":[2,3]}"#;
+    a_life(&rt, rt.alloc(), &[LIVE, in_pack])?;
+    a_life(&rt, rt.alloc(), &[LIVE, in_json])
 }
 
 /// What is read is acknowledged before the answer to it.
 #[test]
 fn an_answer_goes_behind_the_credit(rt: HostRuntime) -> Result<(), Fail> {
-    let rows = "
+    let rows = r#"
         A attaches A1 length pack | ok
         B attaches A1 length pack | ok
         A asks A1 add 2 3         | 1
         B hears                   | content A1 42; A1 asked 1 add list 2
-        B answers A1 1 5          | ok";
-    goes_as(
-        &rt,
-        rt.alloc(),
-        rows,
-        b"",
-        b"\x94\x05\x01\xff\xc4\x02\x91\x2a\x94\x02\x01\xff\xc4\x1d\0\0\0\x19\x83\xa7jsonrpc\xa32.0\xa2id\x01\xa6result\x05",
-    )
+        B answers A1 1 5          | ok
+        A sends                   |
+        B sends                   | \x94\x05\x01\xff\xc4\x02\x91*\x94\x02\x01\xff\xc4\x1d\x00\x00\x00\x19\x83\xa7jsonrpc\xa32.0\xa2id\x01\xa6result\x05"#;
+    a_life(&rt, rt.alloc(), &[LIVE, rows])
 }
 
 /// Version 1 has no credit, and the sides draw odd and even ids.
@@ -142,10 +106,7 @@ fn a_call_is_answered_in_version_1(rt: HostRuntime) -> Result<(), Fail> {
         B answers B2 1 5          | ok
         A hears                   | content B2 29; B2 answered 1
         A outcome B2 1            | 5";
-    let alloc = rt.alloc();
-    let mut a = start(alloc, Version::One, [1; 16])?;
-    let mut b = start(alloc, Version::One, [0; 16])?;
-    lives(&rt, alloc, &mut a, &mut b, rows)
+    a_life_in(&rt, rt.alloc(), Version::One, &[rows])
 }
 
 #[test]

@@ -26,3 +26,5 @@ mod rows;
 mod sequences;
 #[cfg(test)]
 mod values;
+#[cfg(test)]
+mod words;

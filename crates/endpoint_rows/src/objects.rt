@@ -1,7 +1,6 @@
 //! Objects that are passed by handle.
 
-use crate::rows::{WIDE, a_life, fresh, happens, is_told, lives};
-use endpoint::Endpoint;
+use crate::rows::{WIDE, a_life};
 use std::alloc::Global;
 use std::process::Abort;
 use std::test::Fail;
@@ -155,28 +154,16 @@ const ASKED: &str = "
     B attaches A1 length json | ok
     B asks A1 work            | 1";
 
-/// The handles that B has adopted after this message of A.
-fn adopted_by(
-    alloc: Global,
-    a: &mut Endpoint,
-    b: &mut Endpoint,
-    message: &str,
-) -> Result<String, Fail> {
-    let says = format!(in alloc; "says A1 {message}")?;
-    happens(alloc, "A", a, b, says.as_str())?;
-    happens(alloc, "B", b, a, "hears")?;
-    happens(alloc, "B", b, a, "adopted A1")
+/// A says the message of a row, and B has adopted these handles then.
+fn adoption(alloc: Global, row: &str) -> Result<String, Fail> {
+    let (message, wanted) = row.split_once('|').unwrap_or((row, ""));
+    Ok(format!(in alloc; "A says A1 {message} | ok\nB takes-in | ok\nB adopted A1 | {wanted}")?)
 }
 
 /// A row is a message, and the handles that are adopted from it, behind a bar.
 fn is_adopted(rt: &impl Abort, alloc: Global, row: &str) -> Result<(), Fail> {
-    let (message, wanted) = row.split_once('|').unwrap_or((row, ""));
-    let (mut a, mut b) = (fresh(alloc)?, fresh(alloc)?);
-    lives(rt, alloc, &mut a, &mut b, WIDE)?;
-    lives(rt, alloc, &mut a, &mut b, ASKED)?;
-    let told = adopted_by(alloc, &mut a, &mut b, message.trim())?;
-    is_told(rt, told.as_str(), wanted.trim(), row);
-    Ok(())
+    let rows = adoption(alloc, row)?;
+    a_life(rt, alloc, &[WIDE, ASKED, rows.as_str()])
 }
 
 fn are_adopted(rt: &impl Abort, alloc: Global, rows: &str) -> Result<(), Fail> {

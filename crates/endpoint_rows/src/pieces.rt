@@ -1,7 +1,6 @@
 //! Content that comes early, late or in pieces.
 
-use crate::rows::{LIVE, a_life, framed, fresh, hears, is_told, lives, makes, sent, writes};
-use endpoint::{Call, ChannelKey, Endpoint};
+use crate::rows::{LIVE, a_life};
 use std::alloc::Global;
 use std::process::Abort;
 use std::test::Fail;
@@ -24,71 +23,31 @@ fn content_before_the_connection_is_read_by_it(rt: HostRuntime) -> Result<(), Fa
 /// B has a connection on the channel, and A none.
 const ATTACHED: &str = "B attaches A1 length json | ok";
 
-/// A's channel.
-const CHANNEL: ChannelKey = ChannelKey { id: 1, own: true };
+/// A message whose framed form has 43 bytes.
+const RUN: &str = r#"{"id":1,"jsonrpc":"2.0","method":"run"}"#;
 
-/// What B hears of at most so many bytes of the output of A.
-fn hears_of(
-    alloc: Global,
-    a: &mut Endpoint,
-    b: &mut Endpoint,
-    most: usize,
-) -> Result<String, Fail> {
-    hears(alloc, "B", b, &sent(alloc, a, most)?)
+/// Its two parts go in one content each.
+fn in_two_parts(alloc: Global, at: usize) -> Result<String, Fail> {
+    let (body, rest) = (RUN, 43usize.saturating_sub(at));
+    Ok(format!(in alloc;
+        "A writes A1 0 {at} {body} | ok
+        A writes A1 {at} 43 {body} | ok
+        B hears | content A1 {at}; content A1 {rest}; A1 asked 1 run absent"
+    )?)
 }
 
-/// Two pieces are written by A, and what B hears of them.
-fn hears_two(
-    alloc: Global,
-    a: &mut Endpoint,
-    b: &mut Endpoint,
-    (front, rest): (&[u8], &[u8]),
-) -> Result<String, Fail> {
-    for piece in [front, rest] {
-        makes(alloc, "A", a, Call::Mux(writes(alloc, CHANNEL, piece)?))?;
-    }
-    hears_of(alloc, a, b, 1_000)
-}
-
-/// Two ends get the channel, and B its connection.
-fn begins(rt: &impl Abort, alloc: Global, a: &mut Endpoint, b: &mut Endpoint) -> Result<(), Fail> {
-    lives(rt, alloc, a, b, LIVE)?;
-    lives(rt, alloc, a, b, ATTACHED)
-}
-
-/// The two ends with the channel, on which the bytes are written in two pieces, and what B hears of them.
-fn heard_of_pieces(rt: &impl Abort, alloc: Global, pieces: (&[u8], &[u8])) -> Result<String, Fail> {
-    let (mut a, mut b) = (fresh(alloc)?, fresh(alloc)?);
-    begins(rt, alloc, &mut a, &mut b)?;
-    hears_two(alloc, &mut a, &mut b, pieces)
+fn is_heard_in_two_parts(rt: &impl Abort, alloc: Global, at: usize) -> Result<(), Fail> {
+    let rows = in_two_parts(alloc, at)?;
+    a_life(rt, alloc, &[LIVE, ATTACHED, rows.as_str()])
 }
 
 /// A message is heard once its last byte came, wherever the content is cut.
 #[test]
 fn content_is_cut_at_each_byte(rt: HostRuntime) -> Result<(), Fail> {
-    let alloc = rt.alloc();
-    let bytes = framed(alloc, r#"{"id":1,"jsonrpc":"2.0","method":"run"}"#)?;
-    for at in 1..bytes.len() {
-        let told = heard_of_pieces(&rt, alloc, bytes.split_at(at))?;
-        let wanted = format!(in alloc;
-            "content A1 {at}; content A1 {}; A1 asked 1 run absent",
-            bytes.len() - at
-        )?;
-        is_told(&rt, told.as_str(), wanted.as_str(), "a cut");
+    for at in 1..43 {
+        is_heard_in_two_parts(&rt, rt.alloc(), at)?;
     }
     Ok(())
-}
-
-/// What B hears of the output of A that comes up to this byte, and behind `cut` of the rest.
-fn heard_of_cut(
-    alloc: Global,
-    a: &mut Endpoint,
-    b: &mut Endpoint,
-    at: usize,
-) -> Result<String, Fail> {
-    let front = hears_of(alloc, a, b, at)?;
-    let rest = hears_of(alloc, a, b, 1_000)?;
-    Ok(format!(in alloc; "{front} cut {rest}")?)
 }
 
 /// A asks on its own new connection.
@@ -96,24 +55,23 @@ const ASKED: &str = "
     A attaches A1 length json | ok
     A asks A1 run             | 1";
 
-fn heard_of_stream(rt: &impl Abort, alloc: Global, at: usize) -> Result<String, Fail> {
-    let (mut a, mut b) = (fresh(alloc)?, fresh(alloc)?);
-    begins(rt, alloc, &mut a, &mut b)?;
-    lives(rt, alloc, &mut a, &mut b, ASKED)?;
-    heard_of_cut(alloc, &mut a, &mut b, at)
+/// What comes up to this byte of the stream, and behind it.
+fn in_two_pieces(alloc: Global, at: usize) -> Result<String, Fail> {
+    let whole = "content A1 43; A1 asked 1 run absent";
+    let (front, rest) = if at < 49 { ("", whole) } else { (whole, "") };
+    Ok(format!(in alloc; "B hears-of {at} | {front}\nB hears | {rest}")?)
+}
+
+fn is_heard_in_two_pieces(rt: &impl Abort, alloc: Global, at: usize) -> Result<(), Fail> {
+    let rows = in_two_pieces(alloc, at)?;
+    a_life(rt, alloc, &[LIVE, ATTACHED, ASKED, rows.as_str()])
 }
 
 /// The message is heard when its whole frame came, which has 6 bytes more than the 43 of its content.
 #[test]
 fn the_stream_is_cut_at_each_byte(rt: HostRuntime) -> Result<(), Fail> {
     for at in 0..=49 {
-        let told = heard_of_stream(&rt, rt.alloc(), at)?;
-        let wanted = if at < 49 {
-            " cut content A1 43; A1 asked 1 run absent"
-        } else {
-            "content A1 43; A1 asked 1 run absent cut "
-        };
-        is_told(&rt, told.as_str(), wanted, "a cut");
+        is_heard_in_two_pieces(&rt, rt.alloc(), at)?;
     }
     Ok(())
 }
