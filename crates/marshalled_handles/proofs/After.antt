@@ -1,5 +1,5 @@
 -- What stands after a call, by what the call made of the handles.
-use Rattle.std.proofs.Common.{◌≡◌, ℕ, List, [], ◌∷◌, ◌++◌, sym, subst, Option, Some}
+use Rattle.std.proofs.Common.{◌≡◌, ℕ, List, ◌∷◌, sym, subst, Option, Some}
 use Rattle.wire_base.specs.Tree.{Tree}
 use Rattle.wire_base.specs.declared.state.Cause.{Cause}
 use Rattle.wire_base.specs.declared.text.Id.{Id}
@@ -8,22 +8,18 @@ use Rattle.rpc_items.specs.declared.calls.Outcome.{Outcome}
 use Rattle.rpc_items.specs.declared.messages.Message.{Message}
 use Rattle.rpc_items.specs.Items.{RpcItem, Did, Got, End, Release, Respond}
 use Rattle.rpc_items.specs.Keys.{own_key, peer_key}
-use Rattle.rpc_items.specs.Made.{Made}
 use Rattle.rpc_items.specs.Outcomes.{response_in}
 use Rattle.marshalled_handles.specs.declared.own_handle.OwnHandle.{OwnHandle}
 use Rattle.marshalled_handles.specs.declared.peer_handle.PeerHandle.{PeerHandle}
 use Rattle.marshalled_handles.specs.Holder.{adopting, adopting_all, responded}
 use Rattle.marshalled_handles.specs.Holder as holder
-use Rattle.marshalled_handles.specs.Owner.{answered, offered}
+use Rattle.marshalled_handles.specs.Owner.{answered}
 use Rattle.marshalled_handles.specs.Owner as owner
-use Rattle.marshalled_handles.specs.Stands.{HolderStands, IsRelease, Offers, OffersOne, OwnerStands, OwnerStandsWith}
+use Rattle.marshalled_handles.specs.Stands.{HolderStands, IsRelease, Offers, OffersOne, OwnerStands}
 use Rattle.marshalled_handles.proofs.Holding.{all_hold, ended_holds, let_go_holds, one_holds, release_holds, responded_holds}
-use Rattle.marshalled_handles.proofs.Owning.{answered_stands, ended_stands, let_go_stands, offered_stands, release_stands}
+use Rattle.marshalled_handles.proofs.Owning.{answered_stands, ended_stands, let_go_stands, release_stands}
 
 -- own handles
-
-pub offered_after : (m : Made) (more : List Made) (old new : List OwnHandle) (items : List RpcItem) → new ≡ offered m old → OwnerStandsWith more old items → OwnerStandsWith (more ++ (m ∷ [])) new items
-offered_after m more old new items e s = subst (λ (hs : List OwnHandle). OwnerStandsWith (more ++ (m ∷ [])) hs items) (sym e) (offered_stands m more old items s)
 
 pub own_let_go_after : (number : ℕ) (old new : List OwnHandle) (items : List RpcItem) → new ≡ owner.released number old → OwnerStands old items → OwnerStands new (Did (Release (own_key number)) ∷ items)
 own_let_go_after number old new items e s = subst (λ (hs : List OwnHandle). OwnerStands hs (Did (Release (own_key number)) ∷ items)) (sym e) (let_go_stands number old items s)

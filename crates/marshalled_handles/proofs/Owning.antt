@@ -1,8 +1,8 @@
 -- What is kept of own handles stands for the items again after each item.
 use Rattle.std.specs.Prelude.{Bool, true, false, ◌||◌, ◌==◌, is_some, option_map, slice_get, Option}
-use Rattle.std.proofs.Common.{◌≡◌, ℕ, ◌+◌, ◌-◌, List, [], ◌∷◌, ◌++◌, length, refl, sym, ◌∙◌, ap, ap₂, subst, inl, inr, arith, Some, None, length-append}
+use Rattle.std.proofs.Common.{◌≡◌, ℕ, ◌+◌, ◌-◌, List, [], ◌∷◌, ◌++◌, length, refl, sym, ◌∙◌, ap, ap₂, inl, inr, arith, Some, None, length-append}
 use Rattle.std.proofs.lemmas.Bool.{cases_Bool, cases_lt, eqb-true}
-use Rattle.std.proofs.lemmas.List.{append_assoc, append-nil, length-map, map-append}
+use Rattle.std.proofs.lemmas.List.{length-map, map-append}
 use Rattle.std.proofs.lemmas.Option.{slice_get-map}
 use Rattle.wire_base.specs.declared.state.Cause.{Cause}
 use Rattle.rpc_items.specs.declared.calls.Answer.TheVariants as answer
@@ -15,8 +15,8 @@ use Rattle.rpc_items.specs.Made.{Made, made, made_by}
 use Rattle.rpc_items.specs.Outcomes.{is_unanswered, response_in}
 use Rattle.rpc_items.specs.OwnHandles.{ends_made, ends_own, own_ended, own_made}
 use Rattle.marshalled_handles.specs.declared.own_handle.OwnHandle.{OwnHandle}
-use Rattle.marshalled_handles.specs.Owner.{all_ended, answered, answering, ending, fresh, is_until, offered, released}
-use Rattle.marshalled_handles.specs.Stands.{IsRelease, OwnerStands, OwnerStandsWith, own_after, own_at}
+use Rattle.marshalled_handles.specs.Owner.{all_ended, answered, answering, ending, fresh, is_until, released}
+use Rattle.marshalled_handles.specs.Stands.{IsRelease, OwnerStands, own_after, own_at}
 use Rattle.marshalled_handles.proofs.Ending.{answered_both, answered_others, answered_over, answered_released, answered_twice, answered_untied, fresh_all}
 use Rattle.marshalled_handles.proofs.Owned.{drawn_waits, ended_made, made_same, message_waits, not_waiting, or_false, release_answers, release_ends, response_ends, response_one, same_own, unmade_lives}
 use Rattle.marshalled_handles.proofs.Places.{ending_if, get_before, get_behind, get_past, length-released, numbered_next, released_each, unended}
@@ -185,20 +185,3 @@ made_stands call handles items runs keeps s = record {
           ∙ sym (ap (option_map (own_after (place + 1) (Did call ∷ items))) (get_before (made items) more place (omega (arith, l, s.count))))))
       | inr l ↦ behind (place - length handles) place (omega (arith, l))
     ]
-
--- handles that are offered one after another
-
-pub offered_stands : (m : Made) (more : List Made) (handles : List OwnHandle) (items : List RpcItem) → OwnerStandsWith more handles items → OwnerStandsWith (more ++ (m ∷ [])) (offered m handles) items
-offered_stands m more handles items s = record {
-  early = s.early;
-  is = ap (λ (hs : List OwnHandle). hs ++ (fresh m ∷ [])) s.is ∙ (append_assoc s.early (fresh_all more) (fresh m ∷ []) ∙ ap (λ (hs : List OwnHandle). s.early ++ hs) (sym (map-append fresh more (m ∷ []))));
-  stands = s.stands;
-}
-
-pub none_offered : (handles : List OwnHandle) (items : List RpcItem) → OwnerStands handles items → OwnerStandsWith [] handles items
-none_offered handles items s = record { early = handles; is = sym (append-nil handles); stands = s }
-
-pub call_stands : (call : RpcCall) (more : List Made) (handles : List OwnHandle) (items : List RpcItem) → made_by (drawn items + 1) (Did call) ≡ more → is_running items ≡ true → is_release_call call ≡ false → OwnerStandsWith more handles items → OwnerStands handles (Did call ∷ items)
-call_stands call more handles items makes runs keeps s =
-    subst (λ (hs : List OwnHandle). OwnerStands hs (Did call ∷ items)) (sym (s.is ∙ ap (λ (ms : List Made). s.early ++ fresh_all ms) (sym makes)))
-    (made_stands call s.early items runs keeps s.stands)

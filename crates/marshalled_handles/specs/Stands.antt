@@ -1,5 +1,5 @@
 -- When what is kept of handles stands for a list of items.
-use Rattle.std.specs.Prelude.{◌≡◌, ℕ, ◌+◌, List, ◌++◌, ◌==◌, length, map, Bool, false, slice_get, option_map, nat_lt, if◌then◌else◌, Option, Some, None}
+use Rattle.std.specs.Prelude.{◌≡◌, ℕ, ◌+◌, List, ◌==◌, length, Bool, false, slice_get, option_map, nat_lt, if◌then◌else◌, Option, Some, None}
 use Rattle.wire_base.specs.Tree.{Tree}
 use Rattle.wire_base.specs.declared.refusal.Refusal.{Refusal}
 use Rattle.wire_base.specs.declared.refusal.Refusal.TheVariants as refusal
@@ -20,7 +20,7 @@ use Rattle.rpc_items.specs.PeerHandles.{Adopted, adopted, adopted_in, adoption, 
 use Rattle.marshalled_handles.specs.declared.own_handle.OwnHandle.{OwnHandle}
 use Rattle.marshalled_handles.specs.declared.peer_handle.PeerHandle.{PeerHandle}
 use Rattle.marshalled_handles.specs.Holder.{AreRising, found}
-use Rattle.marshalled_handles.specs.Owner.{answered, fresh}
+use Rattle.marshalled_handles.specs.Owner.{answered}
 use Rattle.marshalled_handles.specs.Replies.{seen}
 
 -- handles that this end made
@@ -39,12 +39,6 @@ pub record OwnerStands (handles : List OwnHandle) (items : List RpcItem) : Type 
   pub each : (place : ℕ) → slice_get handles place ≡ own_at place items
   -- none that lives ends with a response that can't come
   pub late : (n : ℕ) → is_unanswered n items ≡ false → answered n handles ≡ handles
-
--- the handles are as these items leave them, and behind them stand those that the call makes which comes next
-pub record OwnerStandsWith (more : List Made) (handles : List OwnHandle) (items : List RpcItem) : Type 0 where
-  pub early : List OwnHandle
-  pub is : handles ≡ early ++ map fresh more
-  pub stands : OwnerStands early items
 
 -- the object of own handle n, while it lives
 abbrev pub own_object : ℕ → List RpcItem → Option ℕ

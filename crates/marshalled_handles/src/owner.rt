@@ -3,17 +3,17 @@
 ghost use Rattle.marshalled_handles.specs.Arguments.{is_object, objects_refusal, offered_all};
 ghost use Rattle.marshalled_handles.specs.Owner.{all_ended, answered, end_in, ended_at, object_in, offered, released, room_refusal};
 ghost use Rattle.marshalled_handles.specs.Replies.{Checks, seen_refusal};
-ghost use Rattle.marshalled_handles.specs.Stands.{IsRelease, OwnerStands, OwnerStandsWith, end_after, many_refusal, own_object};
+ghost use Rattle.marshalled_handles.specs.Stands.{IsRelease, OwnerStands, end_after, many_refusal, own_object};
 ghost use Rattle.rpc_items.specs.Drawn.{with_number};
 ghost use Rattle.rpc_items.specs.Items.{Did, End, Got, Release, RpcItem};
 ghost use Rattle.rpc_items.specs.Keys.{own_key};
-ghost use Rattle.rpc_items.specs.Made.{Made, last_handle, until_answer};
+ghost use Rattle.rpc_items.specs.Made.{last_handle, until_answer};
 ghost use Rattle.rpc_items.specs.Outcomes.{response_in};
 ghost use Rattle.rpc_items.specs.Refusals.{handle_refusal};
 ghost use Rattle.rpc_items.specs.declared.calls.Outcome.{Outcome};
 ghost use Rattle.rpc_items.specs.declared.messages.Message.{Message};
 ghost use Rattle.std.specs.Option.{option_copied};
-ghost use Rattle.std.specs.Prelude.{◌≡◌, ◌∷◌, ◌++◌, [], List, OnErr, OnOk, Some, filter, length, ℕ};
+ghost use Rattle.std.specs.Prelude.{◌≡◌, ◌∷◌, [], List, OnErr, OnOk, Some, filter, length, ℕ};
 ghost use Rattle.wire_base.specs.declared.state.Cause.{Cause};
 
 use crate::own_handle::OwnHandle;
@@ -109,8 +109,6 @@ impl Owner {
     pub fn offer(&mut self, object: u64, until: Option<u64>) -> Result<(), OutOfMemory>
         ensures ok { OnOk result (self.new ≡ offered (record { object = object; until = until }) self.old) }
         ensures err { OnErr result (self.new ≡ self.old) }
-        ensures stands { (items : List RpcItem) (more : List Made) → OwnerStandsWith more self.old items →
-            OnOk result (OwnerStandsWith (more ++ (record { object = object; until = until }) ∷ []) self.new items) }
     {
         let handle = OwnHandle {
             object,

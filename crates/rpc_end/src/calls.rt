@@ -2,7 +2,6 @@
 
 ghost use Rattle.call_messages.specs.Messages.{is_plain_answer, release_message};
 ghost use Rattle.call_table.specs.Replies.{cancel_refusal, full_refusal, unless_there};
-ghost use Rattle.call_table.specs.Stands.{StandsDrawn, TableStands};
 ghost use Rattle.call_table.specs.Table.{begun, waits_in, with_cancelled};
 ghost use Rattle.enumerables.specs.Consumer.{following_refusal, found, turning, without};
 ghost use Rattle.enumerables.specs.Producer.{with_sequence};
@@ -394,7 +393,6 @@ impl RpcEnd {
     /// Says that a request of a running end is cancelled.
     fn give_up(&mut self, n: u64) -> Result<(), CallFault>
         ensures calls { Calls self.old self.new (cancel_refusal n self.old.table) (said (Did (Cancel n)) []) (with_table (with_cancelled n self.old.table) self.old) tt result }
-        ensures stands { (items : List RpcItem) → TableStands false self.old.table items → OnOk result (TableStands false self.new.table (Did (Cancel n) ∷ items)) }
         ensures said { OnOk result (AreMessages (said (Did (Cancel n)) [])) }
     {
         let text = self.cancellation_text(n)?;
@@ -414,7 +412,6 @@ impl RpcEnd {
     fn note_cancelled(&mut self, n: u64, text: &[u8]) -> Result<(), CallFault>
         requires { cancel_refusal n self.old.table ≡ None }
         ensures makes { Makes self.old self.new None None (with_output (self.old.output ++ text.now) (with_table (with_cancelled n self.old.table) self.old)) tt result }
-        ensures stands { (items : List RpcItem) → TableStands false self.old.table items → OnOk result (TableStands false self.new.table (Did (Cancel n) ∷ items)) }
     {
         if let Err(refusal) = self.table.cancel(n) {
             return Err(CallFault::Refused(refusal));
@@ -427,7 +424,6 @@ impl RpcEnd {
     fn draw(&mut self, expect: Expect, progress: bool, text: &[u8]) -> Result<u64, CallFault>
         requires { full_refusal self.old.table ≡ None }
         ensures makes { Makes self.old self.new None None (with_output (self.old.output ++ text.now) (with_table (begun expect progress self.old.table) self.old)) (next_number self.old) result }
-        ensures stands { (items : List RpcItem) → TableStands false self.old.table items → OnOk result (StandsDrawn expect progress self.new.table items) }
     {
         let number = self.table.begin(expect, progress)?;
         self.send(text)?;
