@@ -12,6 +12,7 @@ use Rattle.endpoint_run.specs.declared.steps.Step.{Step}
 use Rattle.endpoint_run.specs.Answers.{run}
 use Rattle.endpoint_run.specs.Run.{EndSide, EndWorld, mux_side}
 use Rattle.duo_world.specs.Ranges.{AreInRange}
+use Rattle.mux_items.specs.Limits.{nonce_size}
 
 -- the place of the first byte from y that x hasn't applied
 abbrev pub place_of : SideTerms → RunSide → RunSide → ℕ
@@ -51,10 +52,10 @@ pub record DuoState : Type 0 where
 abbrev pub StandsForRun : DuoState → Type 0
 StandsForRun d = StandForWorld d.terms d.a d.b (run d.terms d.steps)
 
--- a nonce is of 16 bytes
+-- nonces have their size
 pub record HaveNonces (w : SideTerms) : Type 0 where
-  pub own : length w.own ≡ 16
-  pub peer : length w.peer ≡ 16
+  pub own : length w.own ≡ nonce_size
+  pub peer : length w.peer ≡ nonce_size
 
 -- a Duo in which memory didn't run out stands for its run
 pub record IsWorking (d : DuoState) : Type 0 where

@@ -9,6 +9,7 @@ ghost use Rattle.std.specs.Prelude.{◌≡◌, [], IfOk, OnErr, false, true};
 use crate::ends::make_step;
 use endpoint::Endpoint;
 use endpoint_run::{DuoAnswer, Side, Step, StepList};
+use mux_items::NONCE_SIZE;
 use std::alloc::Global;
 use std::marker::Model;
 use wire_base::{OutOfMemory, Version};
@@ -18,8 +19,8 @@ use wire_base::{OutOfMemory, Version};
 pub struct Duo {
     alloc: Global,
     version: Version,
-    nonce_a: [u8; 16],
-    nonce_b: [u8; 16],
+    nonce_a: [u8; NONCE_SIZE],
+    nonce_b: [u8; NONCE_SIZE],
     a: Endpoint,
     b: Endpoint,
     steps: StepList,
@@ -45,7 +46,11 @@ impl Model for Duo {
 
 impl Duo {
     /// Two ends with their first bytes in flight. The nonces are those of A and of B.
-    pub fn start(alloc: Global, version: Version, nonces: [[u8; 16]; 2]) -> Result<Duo, OutOfMemory>
+    pub fn start(
+        alloc: Global,
+        version: Version,
+        nonces: [[u8; NONCE_SIZE]; 2],
+    ) -> Result<Duo, OutOfMemory>
         ensures fresh { IfOk result (λ d. (d.steps ≡ []) × (d.failed ≡ false) × (d.terms ≡ terms_of version nonces)) }
         ensures stands { IfOk result StandsForRun }
         ensures holds { IfOk result (λ d. RunHolds d.terms d.steps) }
@@ -95,7 +100,7 @@ impl Duo {
     pub fn run(
         alloc: Global,
         version: Version,
-        nonces: [[u8; 16]; 2],
+        nonces: [[u8; NONCE_SIZE]; 2],
         steps: StepList,
     ) -> Result<Duo, OutOfMemory>
         ensures stored { IfOk result (λ d. (d.steps ≡ steps) × (d.failed ≡ false) × (d.terms ≡ terms_of version nonces)) }

@@ -22,6 +22,7 @@ ghost use Rattle.std.specs.Prelude.{◌≡◌, ◌≤◌, IfOk, List, drop, fals
 
 use crate::attached::Attached;
 use mux_end::{ChannelKey, ChannelView, MuxEnd, Tally, same_key};
+use mux_items::NONCE_SIZE;
 use rpc_end::{HandleKey, Look};
 use std::alloc::Global;
 use std::marker::Model;
@@ -56,7 +57,11 @@ impl Model for Endpoint {
 
 impl Endpoint {
     /// An end without channels, whose output is its hello.
-    pub fn start(alloc: Global, version: Version, nonce: [u8; 16]) -> Result<Endpoint, OutOfMemory>
+    pub fn start(
+        alloc: Global,
+        version: Version,
+        nonce: [u8; NONCE_SIZE],
+    ) -> Result<Endpoint, OutOfMemory>
         ensures { IfOk result (IsStarted version nonce) }
     {
         Ok(Endpoint {

@@ -12,7 +12,7 @@ use crate::book::ChannelBook;
 use any_codec::AnyCodec;
 use frame_reader::FrameReader;
 use mux_handshake::hello;
-use mux_items::{ChannelKey, ChannelView, Tally};
+use mux_items::{ChannelKey, ChannelView, NONCE_SIZE, Tally};
 use std::alloc::Global;
 use std::marker::Model;
 use wire_base::{CallFault, Cause, EndState, OutOfMemory, Place, Version};
@@ -20,7 +20,7 @@ use wire_base::{CallFault, Cause, EndState, OutOfMemory, Place, Version};
 /// One end of a multiplexing stream, with all its channels.
 #[derive(Drop)]
 pub struct MuxEnd {
-    pub(crate) nonce: [u8; 16],
+    pub(crate) nonce: [u8; NONCE_SIZE],
     pub(crate) book: ChannelBook,
     pub(crate) output: Vec<u8>,
     pub(crate) reader: FrameReader<AnyCodec>,
@@ -42,7 +42,11 @@ impl Model for MuxEnd {
 
 impl MuxEnd {
     /// An end without channels, whose output is its hello.
-    pub fn start(alloc: Global, version: Version, nonce: [u8; 16]) -> Result<MuxEnd, OutOfMemory>
+    pub fn start(
+        alloc: Global,
+        version: Version,
+        nonce: [u8; NONCE_SIZE],
+    ) -> Result<MuxEnd, OutOfMemory>
         ensures { IfOk result (IsStarted version nonce) }
     {
         let mut output = Vec::new(alloc);

@@ -18,6 +18,7 @@ use Rattle.wire_base.proofs.TokenAgain.{head_at-again, token_at-again, field-aga
 use Rattle.mux_items.specs.Parties.{party_by}
 use Rattle.mux_handshake.specs.Handshake.{nonce_at, plain_at, packed_at, major_at, major_in, handshake_at, handshake, Whole, Short, Broken}
 use Rattle.mux_handshake.proofs.Stopping.{judged}
+use Rattle.mux_items.specs.Limits.{nonce_size}
 
 -- ---- up to the nonce
 
@@ -44,9 +45,9 @@ major_at-again rest =
 minor-again : (rest : List ℕ) → token_at a_number count_in BadShape2 (0x00 ∷ rest) ≡ Ok (0, rest)
 minor-again rest = token_at-again a_number count_in BadShape2 (token.Whole (pos 0)) (pos 0) 0 (0x00 ∷ []) rest refl refl refl
 
-bin-again : (rest : List ℕ) → token_at a_bin (only 16) BadShape2 (0xc4 ∷ 0x10 ∷ rest) ≡ Ok (16, rest)
+bin-again : (rest : List ℕ) → token_at a_bin (only nonce_size) BadShape2 (0xc4 ∷ 0x10 ∷ rest) ≡ Ok (nonce_size, rest)
 unfolding lettered
-bin-again rest = token_at-again a_bin (only 16) BadShape2 (token.Bin 16) 16 16 (0xc4 ∷ 0x10 ∷ []) rest refl refl refl
+bin-again rest = token_at-again a_bin (only nonce_size) BadShape2 (token.Bin nonce_size) nonce_size nonce_size (0xc4 ∷ 0x10 ∷ []) rest refl refl refl
 
 packed_at-again : (own rest : List ℕ) → packed_at own (0x92 ∷ 0x92 ∷ 0x02 ∷ 0x00 ∷ 0xc4 ∷ 0x10 ∷ rest) ≡ nonce_at own rest
 unfolding packed_at
@@ -63,22 +64,22 @@ packed_at-again own rest = rw (
 sixteen-again : (n : ℕ) (peer rest : List ℕ) → length peer ≡ n → bytes_at n (peer ++ rest) ≡ Ok (peer, rest)
 sixteen-again n peer rest len = subst (λ m. bytes_at m (peer ++ rest) ≡ Ok (peer, rest)) len (bytes-again peer rest)
 
-nonce_at-again : (own peer rest : List ℕ) → length peer ≡ 16 → nonce_at own (peer ++ rest) ≡ judged own (length (peer ++ rest)) peer rest
+nonce_at-again : (own peer rest : List ℕ) → length peer ≡ nonce_size → nonce_at own (peer ++ rest) ≡ judged own (length (peer ++ rest)) peer rest
 unfolding nonce_at
-nonce_at-again own peer rest len = ap (λ r. follow r (judged own (length (peer ++ rest)))) (sixteen-again 16 peer rest len)
+nonce_at-again own peer rest len = ap (λ r. follow r (judged own (length (peer ++ rest)))) (sixteen-again nonce_size peer rest len)
 
-nonce_at-short : (own bytes : List ℕ) → length bytes < 16 → nonce_at own bytes ≡ Err Ends
+nonce_at-short : (own bytes : List ℕ) → length bytes < nonce_size → nonce_at own bytes ≡ Err Ends
 unfolding nonce_at bytes_at
-nonce_at-short own bytes short = rw (lt-ltb (length bytes) 16 short) refl
+nonce_at-short own bytes short = rw (lt-ltb (length bytes) nonce_size short) refl
 
 -- ---- a hello
 
-greeting-again : (v : Version) (own peer rest : List ℕ) → v ≢ version.Three → length peer ≡ 16 → handshake_at v own (hello v peer ++ rest) ≡ judged own (length (peer ++ rest)) peer rest
+greeting-again : (v : Version) (own peer rest : List ℕ) → v ≢ version.Three → length peer ≡ nonce_size → handshake_at v own (hello v peer ++ rest) ≡ judged own (length (peer ++ rest)) peer rest
 greeting-again version.One own peer rest two len = plain_at-again own (peer ++ rest) ∙ nonce_at-again own peer rest len
 greeting-again version.Two own peer rest two len = packed_at-again own (peer ++ rest) ∙ nonce_at-again own peer rest len
 greeting-again version.Three own peer rest two len = absurd (two refl)
 
-pub other_hello : (v : Version) (own peer rest : List ℕ) → v ≢ version.Three → length peer ≡ 16 → own ≢ peer → handshake v own (hello v peer ++ rest) ≡ Whole (party_by own peer) (length (hello v peer))
+pub other_hello : (v : Version) (own peer rest : List ℕ) → v ≢ version.Three → length peer ≡ nonce_size → own ≢ peer → handshake v own (hello v peer ++ rest) ≡ Whole (party_by own peer) (length (hello v peer))
 unfolding handshake
 other_hello v own peer rest two len apart =
     let total = length (hello v peer ++ rest) in
@@ -86,12 +87,12 @@ other_hello v own peer rest two len apart =
     let same : total - length rest ≡ length (hello v peer) = omega (arith, length-append (hello v peer) rest) in
     rw (greeting-again v own peer rest two len, differ) (ap (λ n. Whole (party_by own peer) n) same)
 
-nonce_place : (v : Version) (own rest : List ℕ) → v ≢ version.Three → length own ≡ 16 → length (hello v own ++ rest) - length (own ++ rest) ≡ length (hello v own) - 16
+nonce_place : (v : Version) (own rest : List ℕ) → v ≢ version.Three → length own ≡ nonce_size → length (hello v own ++ rest) - length (own ++ rest) ≡ length (hello v own) - nonce_size
 nonce_place version.One own rest two len = omega (arith, length-append own rest)
 nonce_place version.Two own rest two len = omega (arith, length-append own rest)
 nonce_place version.Three own rest two len = absurd (two refl)
 
-pub same_hello : (v : Version) (own rest : List ℕ) → v ≢ version.Three → length own ≡ 16 → handshake v own (hello v own ++ rest) ≡ Broken (length (hello v own) - 16) SameNonce
+pub same_hello : (v : Version) (own rest : List ℕ) → v ≢ version.Three → length own ≡ nonce_size → handshake v own (hello v own ++ rest) ≡ Broken (length (hello v own) - nonce_size) SameNonce
 unfolding handshake
 same_hello v own rest two len =
     let same : bytes_eq own own ≡ true = (bytes_eq-Decides own own).1 refl in
@@ -99,7 +100,7 @@ same_hello v own rest two len =
 
 -- ---- a hello cut
 
-nonce_at-cut : (own peer : List ℕ) (n : ℕ) → n < 16 → nonce_at own (take n peer) ≡ Err Ends
+nonce_at-cut : (own peer : List ℕ) (n : ℕ) → n < nonce_size → nonce_at own (take n peer) ≡ Err Ends
 nonce_at-cut own peer n below = nonce_at-short own (take n peer) (simp length-take (omega arith))
 
 plain_at-cut : (own peer : List ℕ) (n : ℕ) → n < 20 → plain_at own (take n (0x2f ∷ 0xdf ∷ 0x1d ∷ 0x50 ∷ peer)) ≡ Err Ends
@@ -120,7 +121,7 @@ packed_at-cut own peer (suc (suc (suc (suc zero)))) below = refl
 packed_at-cut own peer (suc (suc (suc (suc (suc zero))))) below = refl
 packed_at-cut own peer (suc (suc (suc (suc (suc (suc n)))))) below = packed_at-again own (take n peer) ∙ nonce_at-cut own peer n (omega arith)
 
-pub hello_cut : (v : Version) (own peer : List ℕ) (n : ℕ) → v ≢ version.Three → length peer ≡ 16 → n < length (hello v peer) → handshake v own (take n (hello v peer)) ≡ Short
+pub hello_cut : (v : Version) (own peer : List ℕ) (n : ℕ) → v ≢ version.Three → length peer ≡ nonce_size → n < length (hello v peer) → handshake v own (take n (hello v peer)) ≡ Short
 unfolding handshake
 hello_cut version.One own peer n two len below = rw (plain_at-cut own peer n (omega arith)) refl
 hello_cut version.Two own peer n two len below = rw (packed_at-cut own peer n (omega arith)) refl

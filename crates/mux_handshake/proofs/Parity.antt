@@ -15,6 +15,7 @@ use Rattle.mux_items.specs.Applying.{is_parity}
 use Rattle.mux_items.specs.Bodies.{is_three}
 use Rattle.mux_items.specs.Parties.{is_greater, party_by}
 use Rattle.mux_handshake.specs.Handshake.{major_at, nonce_at, plain_at, packed_at, handshake_at, handshake}
+use Rattle.mux_items.specs.Limits.{nonce_size}
 
 -- what is read is a party of either parity
 abbrev HasParity : Reading Party → Type 0
@@ -42,7 +43,7 @@ parity_unless false size own nonce rest = either (is_greater own nonce)
 
 nonce_tells : (own : List ℕ) → Tells (nonce_at own)
 unfolding nonce_at
-nonce_tells own = record { at = λ bytes. parity_follow (bytes_at 16 bytes) _ (λ nonce rest. parity_unless (bytes_eq own nonce) (length bytes) own nonce rest) }
+nonce_tells own = record { at = λ bytes. parity_follow (bytes_at nonce_size bytes) _ (λ nonce rest. parity_unless (bytes_eq own nonce) (length bytes) own nonce rest) }
 
 plain_tells : (own : List ℕ) → Tells (plain_at own)
 unfolding plain_at
@@ -54,7 +55,7 @@ packed_tells : (own : List ℕ) → Tells (packed_at own)
 unfolding packed_at
 packed_tells own =
     tells_then (token_at an_array (only 2) BadShape2) _ (λ parts. tells_then (token_at an_array (only 2) BadShape2) _ (λ numbers. tells_then major_at _ (λ major.
-    tells_then (token_at a_number count_in BadShape2) _ (λ minor. tells_then (token_at a_bin (only 16) BadShape2) _ (λ size. nonce_tells own)))))
+    tells_then (token_at a_number count_in BadShape2) _ (λ minor. tells_then (token_at a_bin (only nonce_size) BadShape2) _ (λ size. nonce_tells own)))))
 
 reading_parity : (v : Version) (own bytes : List ℕ) → is_three v ≡ false → HasParity (handshake_at v own bytes)
 reading_parity version.One own bytes e = (plain_tells own).at bytes

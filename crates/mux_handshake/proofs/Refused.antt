@@ -20,6 +20,7 @@ use Rattle.wire_base.proofs.Refusals.{IsRefused, at_offset, step-then, meant, Is
 use Rattle.mux_items.specs.declared.party.Party.{Party}
 use Rattle.mux_handshake.specs.Handshake.{nonce_at, plain_at, packed_at, major_at, major_in, handshake_at, handshake}
 use Rattle.mux_handshake.specs.Rules.{pair_due, major_due, minor_due, bin_due, nonce_refusal, magic_then, plain_refusal, packed_refusal, first_refusal}
+use Rattle.mux_items.specs.Limits.{nonce_size}
 
 -- ---- the tokens that are due
 
@@ -41,8 +42,8 @@ is_major_due = record { begins = λ k. refl; says = number_says (λ n. n == 2) m
 is_minor_due : IsDue a_number count_in minor_due
 is_minor_due = record { begins = λ k. refl; says = number_says (λ n. nat_lt n COUNT_LIMIT) count_in (λ n. some_if (nat_lt n COUNT_LIMIT) n) (λ k. refl); own = λ k rest h n own e none. refl }
 
-bin_says : (h : TokenHead) → has_length (λ n. n == 16) h ≡ is_some (meant a_bin (only 16) h)
-bin_says (token.Bin n) = some_if (n == 16) n
+bin_says : (h : TokenHead) → has_length (λ n. n == nonce_size) h ≡ is_some (meant a_bin (only nonce_size) h)
+bin_says (token.Bin n) = some_if (n == nonce_size) n
 bin_says token.Nil = refl
 bin_says (token.Flag v) = refl
 bin_says (token.Whole z) = refl
@@ -50,16 +51,16 @@ bin_says (token.Str n) = refl
 bin_says (token.Array n) = refl
 bin_says (token.Map n) = refl
 
-is_bin_due : IsDue a_bin (only 16) bin_due
+is_bin_due : IsDue a_bin (only nonce_size) bin_due
 is_bin_due = record { begins = λ k. refl; says = bin_says; own = λ k rest h n own e none. refl }
 
 -- ---- readings
 
 nonce-refused : (own bytes : List ℕ) → IsRefused (length bytes) (nonce_at own bytes) (nonce_refusal own bytes)
 unfolding nonce_at bytes_at
-nonce-refused own bytes = elim (tested (ltb (length bytes) 16)) [
+nonce-refused own bytes = elim (tested (ltb (length bytes) nonce_size)) [
   | inl t ↦ rw t refl
-  | inr t ↦ elim (tested (bytes_eq own (take 16 bytes))) [
+  | inr t ↦ elim (tested (bytes_eq own (take nonce_size bytes))) [
     | inl u ↦ rw (t, u) (omega arith, at_offset 0 (length bytes - length bytes) SameNonce (omega arith))
     | inr u ↦ rw (t, u) refl
   ]
@@ -86,8 +87,8 @@ packed-refused own bytes =
     (head-step a_number major_in major_due is_major_due is_sort-number b) (λ h x m c.
     step-then (λ (r : Reading Party). r) (λ h y. meant a_number count_in h ≡ Some y) c (judged minor_due c) (token_at a_number count_in BadShape2 c) _ _ (λ f. refl)
     (token-step a_number count_in minor_due is_minor_due is_sort-number refl c) (λ h x m d.
-    step-then (λ (r : Reading Party). r) (λ h y. meant a_bin (only 16) h ≡ Some y) d (judged bin_due d) (token_at a_bin (only 16) BadShape2 d) _ _ (λ f. refl)
-    (token-step a_bin (only 16) bin_due is_bin_due is_sort-bin refl d) (λ h x m rest. nonce-refused own rest)))))
+    step-then (λ (r : Reading Party). r) (λ h y. meant a_bin (only nonce_size) h ≡ Some y) d (judged bin_due d) (token_at a_bin (only nonce_size) BadShape2 d) _ _ (λ f. refl)
+    (token-step a_bin (only nonce_size) bin_due is_bin_due is_sort-bin refl d) (λ h x m rest. nonce-refused own rest)))))
 
 handshake-refused : (v : Version) (own bytes : List ℕ) → IsRefused (length bytes) (handshake_at v own bytes) (first_refusal v own bytes)
 unfolding first_refusal

@@ -17,6 +17,7 @@ use Rattle.wire_base.specs.Front.{front_of}
 use Rattle.wire_base.proofs.Fronts.{IsFrontBelow, front_of-below, IsFrontSteady, front_of-steady, cut_short}
 use Rattle.mux_handshake.proofs.Stopping.{judged}
 use Rattle.mux_handshake.proofs.Taking.{handshake_takes}
+use Rattle.mux_items.specs.Limits.{nonce_size}
 
 judged-steady : (own : List ℕ) (total : ℕ) (more : List ℕ) (r s : Reading (List ℕ)) → IsSteady more r s → IsSteady more (follow r (judged own total)) (follow s (judged own (total + length more)))
 judged-steady own total more (Ok x) s h =
@@ -27,7 +28,7 @@ judged-steady own total more (Err (Breaks left reason)) s h = rw h refl
 nonce_at-steady : (own : List ℕ) → Steady (nonce_at own)
 unfolding nonce_at
 nonce_at-steady own = record {
-  at = λ bytes more. rw (length-append bytes more) (judged-steady own (length bytes) more (bytes_at 16 bytes) (bytes_at 16 (bytes ++ more)) ((bytes_at-steady 16).at bytes more));
+  at = λ bytes more. rw (length-append bytes more) (judged-steady own (length bytes) more (bytes_at nonce_size bytes) (bytes_at nonce_size (bytes ++ more)) ((bytes_at-steady nonce_size).at bytes more));
 }
 
 magic-steady : (byte : ℕ) → Steady (field_at w8 (only byte) BadMagic)
@@ -55,7 +56,7 @@ packed_at-steady own =
     steady-then (token_at an_array (only 2) BadShape2) _ two (λ numbers.
     steady-then major_at _ major_at-steady (λ major.
     steady-then (token_at a_number count_in BadShape2) _ (token_at-steady a_number count_in BadShape2 is_sort-number) (λ minor.
-    steady-then (token_at a_bin (only 16) BadShape2) _ (token_at-steady a_bin (only 16) BadShape2 is_sort-bin) (λ size. nonce_at-steady own)))))
+    steady-then (token_at a_bin (only nonce_size) BadShape2) _ (token_at-steady a_bin (only nonce_size) BadShape2 is_sort-bin) (λ size. nonce_at-steady own)))))
 
 handshake_at-steady : (v : Version) (own bytes more : List ℕ) → IsSteady more (handshake_at v own bytes) (handshake_at v own (bytes ++ more))
 handshake_at-steady version.One own bytes more = (plain_at-steady own).at bytes more

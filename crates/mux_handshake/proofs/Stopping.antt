@@ -12,6 +12,7 @@ use Rattle.wire_base.proofs.TokenWithin.{Stops, IsBelow, Ends-below, IsCut, byte
 use Rattle.mux_items.specs.declared.party.Party.{Party}
 use Rattle.mux_items.specs.Parties.{party_by}
 use Rattle.mux_handshake.specs.Handshake.{nonce_at, plain_at, packed_at, major_at, major_in, handshake_at}
+use Rattle.mux_items.specs.Limits.{nonce_size}
 
 -- what a whole nonce says, where its first byte begins so many bytes before the end
 abbrev pub judged : (own : List ℕ) → (total : ℕ) → List ℕ → Reader Party
@@ -25,7 +26,7 @@ judged-below own total (Err (Breaks left reason)) h = absurd h
 
 pub nonce_at-below : (own : List ℕ) → Ends-below (nonce_at own)
 unfolding nonce_at
-nonce_at-below own = record { at = λ bytes. judged-below own (length bytes) (bytes_at 16 bytes) (bytes_at-is 16 bytes) }
+nonce_at-below own = record { at = λ bytes. judged-below own (length bytes) (bytes_at nonce_size bytes) (bytes_at-is nonce_size bytes) }
 
 pub magic-below : (byte : ℕ) → Ends-below (field_at w8 (only byte) BadMagic)
 magic-below byte = field_at-below w8 (only byte) BadMagic (omega arith)
@@ -50,7 +51,7 @@ packed_at-below own =
     below-then (token_at an_array (only 2) BadShape2) _ two (λ numbers.
     below-then major_at _ (below-stops 1 17 major_at major_at-stops) (λ major.
     below-then (token_at a_number count_in BadShape2) _ (below-stops 1 17 (token_at a_number count_in BadShape2) (token_at-stops a_number count_in BadShape2)) (λ minor.
-    below-then (token_at a_bin (only 16) BadShape2) _ (below-stops 1 17 (token_at a_bin (only 16) BadShape2) (token_at-stops a_bin (only 16) BadShape2)) (λ size. nonce_at-below own)))))
+    below-then (token_at a_bin (only nonce_size) BadShape2) _ (below-stops 1 17 (token_at a_bin (only nonce_size) BadShape2) (token_at-stops a_bin (only nonce_size) BadShape2)) (λ size. nonce_at-below own)))))
 
 pub handshake_at-below : (v : Version) (own bytes : List ℕ) → IsBelow (length bytes) (handshake_at v own bytes)
 handshake_at-below version.One own bytes = (plain_at-below own).at bytes

@@ -10,6 +10,7 @@ use Rattle.wire_base.proofs.Fronts.{IsFrontWithin, front_of-within}
 use Rattle.mux_items.specs.declared.party.Party.{Party}
 use Rattle.mux_handshake.specs.Handshake.{Whole, plain_at, packed_at, major_at, handshake_at, handshake, Handshake}
 use Rattle.mux_handshake.proofs.Stopping.{nonce_at-below, magic-below, major_at-stops}
+use Rattle.mux_items.specs.Limits.{nonce_size}
 
 plain_at-takes : (own bytes : List ℕ) → IsProper (length bytes) (plain_at own bytes)
 unfolding plain_at
@@ -27,7 +28,7 @@ packed_at-takes own bytes =
     below-then (token_at an_array (only 2) BadShape2) _ (below-stops 1 17 (token_at an_array (only 2) BadShape2) two) (λ numbers.
     below-then major_at _ (below-stops 1 17 major_at major_at-stops) (λ major.
     below-then (token_at a_number count_in BadShape2) _ (below-stops 1 17 (token_at a_number count_in BadShape2) (token_at-stops a_number count_in BadShape2)) (λ minor.
-    below-then (token_at a_bin (only 16) BadShape2) _ (below-stops 1 17 (token_at a_bin (only 16) BadShape2) (token_at-stops a_bin (only 16) BadShape2)) (λ size. nonce_at-below own)))))
+    below-then (token_at a_bin (only nonce_size) BadShape2) _ (below-stops 1 17 (token_at a_bin (only nonce_size) BadShape2) (token_at-stops a_bin (only nonce_size) BadShape2)) (λ size. nonce_at-below own)))))
 
 handshake_at-takes : (v : Version) (own bytes : List ℕ) → v ≢ version.Three → IsProper (length bytes) (handshake_at v own bytes)
 handshake_at-takes version.One own bytes other = plain_at-takes own bytes

@@ -13,10 +13,11 @@ pub use Rattle.wire_base.specs.Front.{Whole, Short, Broken}
 use Rattle.mux_items.specs.declared.party.Party.{Party}
 use Rattle.mux_items.specs.declared.party.Party.TheVariants.{Neither}
 use Rattle.mux_items.specs.Parties.{party_by}
+use Rattle.mux_items.specs.Limits.{nonce_size}
 
--- the peer's nonce, of 16 bytes, which tells the own party; equal nonces are refused once the peer's is whole
+-- the peer's nonce, which tells the own party; equal nonces are refused once the peer's is whole
 unfoldable pub nonce_at : (own : List ℕ) → Reader Party
-nonce_at own bytes = follow (bytes_at 16 bytes) (λ nonce rest. if bytes_eq own nonce then Err (Breaks (length bytes) SameNonce) else Ok (party_by own nonce, rest))
+nonce_at own bytes = follow (bytes_at nonce_size bytes) (λ nonce rest. if bytes_eq own nonce then Err (Breaks (length bytes) SameNonce) else Ok (party_by own nonce, rest))
 
 -- version 1: four bytes, each a token of its own, and the nonce
 unfoldable pub plain_at : (own : List ℕ) → Reader Party
@@ -42,7 +43,7 @@ packed_at own = do
   numbers ← token_at an_array (only 2) BadShape2
   major ← major_at
   minor ← token_at a_number count_in BadShape2
-  size ← token_at a_bin (only 16) BadShape2
+  size ← token_at a_bin (only nonce_size) BadShape2
   nonce_at own
 
 -- version 3 has no handshake

@@ -8,6 +8,7 @@ use Rattle.wire_base.specs.declared.frame.Version.{Version}
 use Rattle.wire_base.specs.declared.frame.Version.TheVariants as version
 use Rattle.wire_base.specs.Tokens.{is_number, is_bin, is_array}
 use Rattle.wire_base.specs.Rules.{Due, Refusal, due_then, natural, has_count, has_length, field_then}
+use Rattle.mux_items.specs.Limits.{nonce_size}
 
 -- an array of two elements
 abbrev pub pair_due : Due
@@ -21,15 +22,15 @@ major_due = record { begins = is_number; may_say = natural (λ n. n == 2); other
 abbrev pub minor_due : Due
 minor_due = record { begins = is_number; may_say = natural (λ n. nat_lt n COUNT_LIMIT); other = BadShape2; wrong = BadShape2 }
 
--- a bin of 16 bytes
+-- a bin of the bytes of a nonce
 abbrev pub bin_due : Due
-bin_due = record { begins = is_bin; may_say = has_length (λ n. n == 16); other = BadShape2; wrong = BadShape2 }
+bin_due = record { begins = is_bin; may_say = has_length (λ n. n == nonce_size); other = BadShape2; wrong = BadShape2 }
 
 -- the peer's nonce, which differs from the own one; the rule is applied once it is whole
 abbrev pub nonce_refusal : (own : List ℕ) → List ℕ → Refusal
 nonce_refusal own bytes =
-    if nat_lt (length bytes) 16 then None
-    else if bytes_eq own (take 16 bytes) then Some (0, SameNonce)
+    if nat_lt (length bytes) nonce_size then None
+    else if bytes_eq own (take nonce_size bytes) then Some (0, SameNonce)
     else None
 
 -- one of the four bytes, each of which is a token of its own

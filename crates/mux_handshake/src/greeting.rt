@@ -3,9 +3,10 @@
 ghost use Rattle.frame_text.specs.Hello.{hello};
 ghost use Rattle.std.specs.Prelude.{◌≡◌, ◌++◌, OnOk, OnErr};
 
+use mux_items::NONCE_SIZE;
 use wire_base::{OutOfMemory, Version};
 
-fn push_both(front: &[u8], nonce: &[u8; 16], out: &mut Vec<u8>) -> Result<(), OutOfMemory>
+fn push_both(front: &[u8], nonce: &[u8; NONCE_SIZE], out: &mut Vec<u8>) -> Result<(), OutOfMemory>
     ensures ok { OnOk result (out.new.items ≡ out.old.items ++ (front.now ++ nonce.now)) }
     ensures err { OnErr result (out.new.items ≡ out.old.items) }
 {
@@ -17,7 +18,11 @@ fn push_both(front: &[u8], nonce: &[u8; 16], out: &mut Vec<u8>) -> Result<(), Ou
 
 /// Writes the handshake of an end with this nonce at the end of `out`: in version 1 four bytes and the nonce, in
 /// version 2 an array of the version's numbers and the nonce, in version 3 nothing.
-pub fn hello(version: Version, nonce: &[u8; 16], out: &mut Vec<u8>) -> Result<(), OutOfMemory>
+pub fn hello(
+    version: Version,
+    nonce: &[u8; NONCE_SIZE],
+    out: &mut Vec<u8>,
+) -> Result<(), OutOfMemory>
     ensures ok { OnOk result (out.new.items ≡ out.old.items ++ hello version nonce.now) }
     ensures err { OnErr result (out.new.items ≡ out.old.items) }
 {

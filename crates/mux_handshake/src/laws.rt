@@ -3,6 +3,7 @@
 ghost use Rattle.frame_text.specs.Hello.{hello};
 ghost use Rattle.mux_handshake.specs.Handshake.{handshake, Whole, Short, Broken};
 ghost use Rattle.mux_handshake.specs.Rules.{first_refusal};
+ghost use Rattle.mux_items.specs.Limits.{nonce_size};
 ghost use Rattle.mux_items.specs.Parties.{party_by};
 ghost use Rattle.mux_items.specs.declared.party.Party.{Party};
 ghost use Rattle.std.specs.Prelude.{◌≡◌, ◌≢◌, ◌<◌, ◌≤◌, ◌-◌, ◌++◌, ℕ, List, length, take, Some};
@@ -30,11 +31,11 @@ pub fn handshake_is_steady()
 /// The peer's hello is a handshake, that of versions 1 and 2 once it is whole. Equal nonces are refused at the first byte of the peer's.
 #[tactic(auto, using(crate::proofs::Hellos::hellos))]
 pub fn hello_is_a_handshake()
-    ensures other { (v : Version) (own peer rest : List ℕ) → v ≢ Three → length peer ≡ 16 → own ≢ peer →
+    ensures other { (v : Version) (own peer rest : List ℕ) → v ≢ Three → length peer ≡ nonce_size → own ≢ peer →
         handshake v own (hello v peer ++ rest) ≡ Whole (party_by own peer) (length (hello v peer)) }
-    ensures same { (v : Version) (own rest : List ℕ) → v ≢ Three → length own ≡ 16 →
-        handshake v own (hello v own ++ rest) ≡ Broken (length (hello v own) - 16) SameNonce }
-    ensures cut { (v : Version) (own peer : List ℕ) (n : ℕ) → v ≢ Three → length peer ≡ 16 → n < length (hello v peer) →
+    ensures same { (v : Version) (own rest : List ℕ) → v ≢ Three → length own ≡ nonce_size →
+        handshake v own (hello v own ++ rest) ≡ Broken (length (hello v own) - nonce_size) SameNonce }
+    ensures cut { (v : Version) (own peer : List ℕ) (n : ℕ) → v ≢ Three → length peer ≡ nonce_size → n < length (hello v peer) →
         handshake v own (take n (hello v peer)) ≡ Short }
 {}
 

@@ -9,12 +9,12 @@ ghost use Rattle.std.specs.Prelude.{◌≡◌};
 ghost use Rattle.wire_base.specs.declared.reason.Reason.TheVariants.{BadMagic};
 
 use crate::shaken::Shaken;
-use mux_items::Party;
+use mux_items::{NONCE_SIZE, Party};
 use wire_base::{Fault, Place, Reason, Version, array_of, bin_of, breaks, count, number};
 
 /// The side with the greater nonce is Odd.
 #[tactic(auto, using(crate::proofs::Greater::greater))]
-fn party(own: &[u8; 16], peer: &[u8; 16]) -> Party
+fn party(own: &[u8; NONCE_SIZE], peer: &[u8; NONCE_SIZE]) -> Party
     ensures { result ≡ party_by own.now peer.now }
 {
     if own > peer { Party::Odd } else { Party::Even }
@@ -22,10 +22,10 @@ fn party(own: &[u8; 16], peer: &[u8; 16]) -> Party
 
 /// The peer's nonce, which tells the own party.
 #[tactic(auto, unfolding(crate::specs::Handshake::nonce_at, wire_base::specs::Tokens::bytes_at))]
-fn nonce<'a>(own: &[u8; 16], bytes: &'a [u8]) -> Result<(Party, &'a [u8]), Fault>
+fn nonce<'a>(own: &[u8; NONCE_SIZE], bytes: &'a [u8]) -> Result<(Party, &'a [u8]), Fault>
     ensures { Says (λ x. (x.0, x.1.now)) result (nonce_at own.now bytes.now) }
 {
-    let Some((peer, rest)) = bytes.split_first_chunk::<16>() else {
+    let Some((peer, rest)) = bytes.split_first_chunk::<NONCE_SIZE>() else {
         return Err(Fault::Ends);
     };
     if own == peer {
@@ -47,7 +47,7 @@ fn magic(byte: u8, bytes: &[u8]) -> Result<&[u8], Fault>
 }
 
 #[tactic(auto, unfolding(crate::specs::Handshake::plain_at))]
-fn plain<'a>(own: &[u8; 16], bytes: &'a [u8]) -> Result<(Party, &'a [u8]), Fault>
+fn plain<'a>(own: &[u8; NONCE_SIZE], bytes: &'a [u8]) -> Result<(Party, &'a [u8]), Fault>
     ensures { Says (λ x. (x.0, x.1.now)) result (plain_at own.now bytes.now) }
 {
     let rest = magic(0x2f, bytes)?;
@@ -71,20 +71,20 @@ fn major(bytes: &[u8]) -> Result<&[u8], Fault>
 }
 
 #[tactic(auto, unfolding(crate::specs::Handshake::packed_at))]
-fn packed<'a>(own: &[u8; 16], bytes: &'a [u8]) -> Result<(Party, &'a [u8]), Fault>
+fn packed<'a>(own: &[u8; NONCE_SIZE], bytes: &'a [u8]) -> Result<(Party, &'a [u8]), Fault>
     ensures { Says (λ x. (x.0, x.1.now)) result (packed_at own.now bytes.now) }
 {
     let (_, rest) = array_of(2, Reason::BadShape2, bytes)?;
     let (_, rest) = array_of(2, Reason::BadShape2, rest)?;
     let rest = major(rest)?;
     let (_, rest) = count(Reason::BadShape2, rest)?;
-    let (_, rest) = bin_of(16, Reason::BadShape2, rest)?;
+    let (_, rest) = bin_of(NONCE_SIZE as u32, Reason::BadShape2, rest)?;
     nonce(own, rest)
 }
 
 fn reading<'a>(
     version: Version,
-    own: &[u8; 16],
+    own: &[u8; NONCE_SIZE],
     bytes: &'a [u8],
 ) -> Result<(Party, &'a [u8]), Fault>
     ensures { Says (λ x. (x.0, x.1.now)) result (handshake_at version own.now bytes.now) }
@@ -99,7 +99,7 @@ fn reading<'a>(
 /// Reads the peer's handshake from the front of all bytes that it sent, at an end with this nonce. In version 3 there
 /// is none, so that it is done at once. It takes no memory.
 #[tactic(auto, using(crate::proofs::Stopping::stops), unfolding(crate::specs::Handshake::handshake))]
-pub fn shake(version: Version, own: &[u8; 16], input: &[u8]) -> Shaken
+pub fn shake(version: Version, own: &[u8; NONCE_SIZE], input: &[u8]) -> Shaken
     ensures { Shakes result input.now (handshake version own.now input.now) }
 {
     match reading(version, own, input) {

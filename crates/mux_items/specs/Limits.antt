@@ -1,6 +1,10 @@
 -- How much an end sends, keeps and takes. Sizes are numbers of bytes.
 use Rattle.std.specs.Prelude.{ℕ}
 
+-- a nonce has so many bytes
+abbrev pub nonce_size : ℕ
+nonce_size = 16
+
 -- the longest name of a channel that is offered
 abbrev pub longest_name : ℕ
 longest_name = 1024

@@ -16,6 +16,6 @@ pub use laws::{
 };
 pub use limits::{
     ABSENT_WINDOW, GREATEST_WINDOW, LONGEST_NAME, MOST_BYTES, MOST_CHANNELS, MOST_OFFERS,
-    MOST_WINDOWS, PIECE_SIZE,
+    MOST_WINDOWS, NONCE_SIZE, PIECE_SIZE,
 };
 pub use party::Party;

@@ -1,5 +1,8 @@
 //! How much an end sends, keeps and takes. Sizes are numbers of bytes.
 
+/// A nonce has so many bytes.
+pub const NONCE_SIZE: usize = 16;
+
 /// The longest name of a channel that is offered.
 pub const LONGEST_NAME: usize = 1024;
 

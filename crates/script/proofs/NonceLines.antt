@@ -8,7 +8,8 @@ use Rattle.std.proofs.lemmas.List.Splits.{join_with_byte-slice_split}
 use Rattle.mux_run.specs.declared.steps.Side.{Side}
 use Rattle.text_words.specs.Bytes.{space}
 use Rattle.text_words.specs.Reading.{nonce_in, words_of}
-use Rattle.text_words.specs.Written.{side_word, bytes_word, is_byte, nonce_size, is_nonce, is_text_word}
+use Rattle.mux_items.specs.Limits.{nonce_size}
+use Rattle.text_words.specs.Written.{side_word, bytes_word, is_byte, is_nonce, is_text_word}
 use Rattle.text_words.proofs.ByteTests.{bytes_eq-same, same_from_bytes_eq}
 use Rattle.text_words.proofs.Joined.{joined-words}
 use Rattle.text_words.proofs.Texts.{visible_word, text_side, text_bytes}

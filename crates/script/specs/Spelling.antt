@@ -8,7 +8,8 @@ use Rattle.mux_run.specs.declared.steps.Side.TheVariants.{A, B}
 use Rattle.endpoint_run.specs.declared.steps.Step.{Step}
 use Rattle.mux_run.specs.Run.{Terms}
 use Rattle.text_words.specs.Bytes.{space}
-use Rattle.text_words.specs.Written.{side_word, bytes_word, line_feed, is_nonce, nonce_size}
+use Rattle.mux_items.specs.Limits.{nonce_size}
+use Rattle.text_words.specs.Written.{side_word, bytes_word, line_feed, is_nonce}
 use Rattle.text_words.specs.Forms.{FormValues, write_forms, are_values}
 use Rattle.script.specs.declared.line_step.LineStep.{LineStep}
 use Rattle.script.specs.declared.step_word.StepWord.{StepWord}

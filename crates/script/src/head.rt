@@ -9,9 +9,9 @@ ghost use Rattle.script.specs.Steps.{on_ok, text_in, format_in, version_in, nonc
 use crate::fault::LineFault;
 use crate::lines::{Line, text};
 use crate::reason::ScriptReason;
+use mux_items::NONCE_SIZE;
 use mux_run::Side;
 use std::alloc::Global;
-use text_words::NONCE_SIZE;
 use wire_base::{OutOfMemory, Version};
 
 const BAD_HEAD: LineFault = LineFault::Refused(ScriptReason::BadHead);

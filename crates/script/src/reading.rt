@@ -15,9 +15,9 @@ use crate::lines::{Line, next_line, text};
 use crate::reason::ScriptReason;
 use crate::{head, steps};
 use endpoint_run::StepList;
+use mux_items::NONCE_SIZE;
 use mux_run::Side;
 use std::alloc::Global;
-use text_words::NONCE_SIZE;
 use wire_base::Version;
 
 /// The most steps that a script has.

@@ -14,7 +14,8 @@ use Rattle.wire_base.specs.declared.frame.Origin.TheVariants as origin
 use Rattle.wire_base.specs.declared.frame.Payload.{Payload}
 use Rattle.wire_base.specs.declared.frame.Payload.TheVariants as payload
 use Rattle.wire_base.specs.declared.frame.Frame.{Frame}
-use Rattle.text_words.specs.Written.{hyphen, bytes_word, line_feed, nonce_size}
+use Rattle.mux_items.specs.Limits.{nonce_size}
+use Rattle.text_words.specs.Written.{hyphen, bytes_word, line_feed}
 
 -- the name of a code
 abbrev pub code_name : Code → List ℕ

@@ -4,9 +4,10 @@ ghost use Rattle.std.specs.Prelude.{◌≡◌, ◌≤◌, ◌++◌, length, OnOk
 ghost use Rattle.json.specs.Print.{quoted};
 ghost use Rattle.stream_view.specs.Lines.{code_name, origin_word, window_word, payload_words, frame_line, hello_line, rest_line, refused_line};
 
+use mux_items::NONCE_SIZE;
 use serde_json::Value;
 use std::alloc::Global;
-use text_words::{NONCE_SIZE, push_bytes, push_decimal, push_hex, push_line_feed, push_text};
+use text_words::{push_bytes, push_decimal, push_hex, push_line_feed, push_text};
 use wire_base::{Code, Frame, Origin, OutOfMemory, Payload, Place, Reason, Version};
 
 fn code_name(code: Code) -> &'static str

@@ -5,7 +5,8 @@ use Rattle.std.specs.Option.{is_some}
 use Rattle.std.specs.Str.{bytes_eq}
 use Rattle.std.proofs.lemmas.Bool.{and_parts}
 use Rattle.std.proofs.lemmas.Option.{option_and_then_some}
-use Rattle.text_words.specs.Written.{is_number, is_byte, nonce_size, is_text_word}
+use Rattle.mux_items.specs.Limits.{nonce_size}
+use Rattle.text_words.specs.Written.{is_number, is_byte, is_text_word}
 use Rattle.text_words.specs.Json.{json_id_in}
 use Rattle.text_words.specs.Forms.{Form, side, channel, name, number, limited, bytes, byte, nonce, count, framing, encoding, expect, owner, method, signed, json_id, FormValue, read_form, write_form, is_value, FormValues, read_front, write_forms, are_values}
 use Rattle.text_words.proofs.ByteTests.{and_true}

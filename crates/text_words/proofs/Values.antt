@@ -11,7 +11,8 @@ use Rattle.hex.specs.Hex.{IsBytes}
 use Rattle.mux_run.specs.declared.steps.Side.{Side}
 use Rattle.mux_run.specs.declared.steps.Side.TheVariants.{A, B}
 use Rattle.text_words.specs.declared.channel_name.ChannelName.{ChannelName}
-use Rattle.text_words.specs.Written.{side_word, channel_word, name_word, bytes_word, count_word, hyphen, everything, number_bound, is_number, is_name, is_byte, nonce_size, is_nonce, is_text_word}
+use Rattle.mux_items.specs.Limits.{nonce_size}
+use Rattle.text_words.specs.Written.{side_word, channel_word, name_word, bytes_word, count_word, hyphen, everything, number_bound, is_number, is_name, is_byte, is_nonce, is_text_word}
 use Rattle.text_words.specs.Reading.{side_in, front_in, number_in, number_up_to, channel_in, name_in, bytes_in, byte_in, only_byte, nonce_in, count_in}
 use Rattle.text_words.proofs.ByteTests.{tested, not_true, same_from_bytes_eq, and_true, chosen}
 use Rattle.text_words.proofs.Choices.{chosen_of_two}

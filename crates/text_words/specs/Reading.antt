@@ -15,7 +15,8 @@ use Rattle.rpc_items.specs.declared.calls.Expect.{Expect}
 use Rattle.rpc_items.specs.declared.calls.Expect.TheVariants as expect
 use Rattle.text_words.specs.declared.channel_name.ChannelName.{ChannelName}
 use Rattle.text_words.specs.Bytes.{space, plus, minus, zero_digit, capital_a, capital_z}
-use Rattle.text_words.specs.Written.{is_number, hyphen, bytes_word, everything, nonce_size, framing_word, encoding_word, expect_word, owner_word, Signed}
+use Rattle.mux_items.specs.Limits.{nonce_size}
+use Rattle.text_words.specs.Written.{is_number, hyphen, bytes_word, everything, framing_word, encoding_word, expect_word, owner_word, Signed}
 
 -- what the next part makes of the value, where there is one
 infixl 10 ◌>>=◌

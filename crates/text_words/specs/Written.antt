@@ -14,6 +14,7 @@ use Rattle.message_framing.specs.declared.framing.Framing.TheVariants as framing
 use Rattle.rpc_items.specs.declared.calls.Expect.{Expect}
 use Rattle.rpc_items.specs.declared.calls.Expect.TheVariants as expect
 use Rattle.text_words.specs.Bytes.{space, line_feed_byte}
+use Rattle.mux_items.specs.Limits.{nonce_size}
 
 -- the letter of a side
 abbrev pub side_word : Side → List ℕ
@@ -136,10 +137,6 @@ is_name name = is_text_word name && not (bytes_eq name hyphen)
 -- a byte's value
 abbrev pub is_byte : ℕ → Bool
 is_byte b = nat_lt b 256
-
--- a nonce has so many bytes
-abbrev pub nonce_size : ℕ
-nonce_size = 16
 
 -- the bytes of a nonce
 abbrev pub is_nonce : List ℕ → Bool

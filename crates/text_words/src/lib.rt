@@ -15,6 +15,6 @@ pub use push::{
     push_text,
 };
 pub use read::{
-    NONCE_SIZE, byte, bytes, channel, count, encoding, expect, framing, limited_number, method,
-    name, nonce, number, owner, side, signed, words,
+    byte, bytes, channel, count, encoding, expect, framing, limited_number, method, name, nonce,
+    number, owner, side, signed, words,
 };

@@ -10,13 +10,11 @@ use crate::channel_name::ChannelName;
 use hex::FromHexError;
 use message_body::Encoding;
 use message_framing::Framing;
+use mux_items::NONCE_SIZE;
 use mux_run::Side;
 use rpc_items::Expect;
 use std::alloc::Global;
 use wire_base::{Blob, OutOfMemory, Text};
-
-/// A nonce has so many bytes.
-pub const NONCE_SIZE: usize = 16;
 
 /// What stands between the spaces of a line.
 pub fn words(alloc: Global, line: &str) -> Result<Vec<&str>, OutOfMemory>
