@@ -1,5 +1,5 @@
 //! Messages with their bodies and their framings, what methods ask for, and what calls say, as tables. Only tests and their helpers
-//! live here.
+//! live here: `rows` reads a table, `words` says what its words stand for, and `tells` what is told of a row.
 #![tactic(auto)]
 
 #[cfg(test)]
@@ -12,3 +12,9 @@ mod framings;
 mod messages;
 #[cfg(test)]
 mod methods;
+#[cfg(test)]
+mod rows;
+#[cfg(test)]
+mod tells;
+#[cfg(test)]
+mod words;
