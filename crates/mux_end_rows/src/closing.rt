@@ -1,6 +1,6 @@
 //! Channels that complete and terminate, and what the end of the end leaves of them.
 
-use crate::rows::{a_life, fresh, lives, start};
+use crate::rows::{a_life, a_life_of};
 use std::alloc::Global;
 use std::process::Abort;
 use std::test::Fail;
@@ -28,13 +28,36 @@ const PEERS_CLOSES: &str = "comes offerer-terminates | closed peer1 |";
 
 const PEERS_IS_CLOSED: &str = "comes offerer-terminates | ignored peer1 |";
 
-/// An end of version 3 lives through these rows one after another.
-fn goes(rt: &impl Abort, alloc: Global, parts: &[&str]) -> Result<(), Fail> {
-    let mut end = fresh(alloc)?;
-    for rows in parts {
-        lives(rt, alloc, &mut end, rows)?;
-    }
-    lives(rt, alloc, &mut end, "state | Running |")
+/// The end runs on.
+const RUNS: &str = "state | Running |";
+
+/// The end ignores frames once it has terminated its own offer, and once that is closed.
+fn own_is_terminated(
+    rt: &impl Abort,
+    alloc: Global,
+    before: &str,
+    ends: &str,
+) -> Result<(), Fail> {
+    a_life(
+        rt,
+        alloc,
+        &[
+            before,
+            ends,
+            ON_OWN,
+            OWN_CLOSES,
+            ON_OWN,
+            OWN_IS_CLOSED,
+            RUNS,
+        ],
+    )
+}
+
+/// The same where the peer has terminated it.
+fn own_is_closed(rt: &impl Abort, alloc: Global, before: &str) -> Result<(), Fail> {
+    let by_peer = "
+        comes acceptor-terminates | closed own1    | offerer-terminates";
+    a_life(rt, alloc, &[before, by_peer, ON_OWN, OWN_IS_CLOSED, RUNS])
 }
 
 #[test]
@@ -49,16 +72,44 @@ fn frames_on_a_terminated_own_offer_are_ignored(rt: HostRuntime) -> Result<(), F
     let completed = "
         complete own1             | ok             | offerer-completes
         comes acceptor-completes  | completed own1 | offerer-terminates";
+    own_is_terminated(&rt, rt.alloc(), waiting, terminated)?;
+    own_is_terminated(&rt, rt.alloc(), live, terminated)?;
+    own_is_terminated(&rt, rt.alloc(), live, completed)?;
+    own_is_closed(&rt, rt.alloc(), waiting)?;
+    own_is_closed(&rt, rt.alloc(), live)
+}
+
+/// The end ignores frames once it has terminated the peer's offer, and once that is closed.
+fn peers_is_terminated(
+    rt: &impl Abort,
+    alloc: Global,
+    before: &str,
+    ends: &str,
+) -> Result<(), Fail> {
+    a_life(
+        rt,
+        alloc,
+        &[
+            before,
+            ends,
+            ON_PEERS,
+            PEERS_CLOSES,
+            ON_PEERS,
+            PEERS_IS_CLOSED,
+            RUNS,
+        ],
+    )
+}
+
+/// The same where the peer has terminated it.
+fn peers_is_closed(rt: &impl Abort, alloc: Global, before: &str) -> Result<(), Fail> {
     let by_peer = "
-        comes acceptor-terminates | closed own1    | offerer-terminates";
-    for (before, ends) in [(waiting, terminated), (live, terminated), (live, completed)] {
-        let parts = [before, ends, ON_OWN, OWN_CLOSES, ON_OWN, OWN_IS_CLOSED];
-        goes(&rt, rt.alloc(), &parts)?;
-    }
-    for before in [waiting, live] {
-        goes(&rt, rt.alloc(), &[before, by_peer, ON_OWN, OWN_IS_CLOSED])?;
-    }
-    Ok(())
+        comes offerer-terminates  | closed peer1    | acceptor-terminates";
+    a_life(
+        rt,
+        alloc,
+        &[before, by_peer, ON_PEERS, PEERS_IS_CLOSED, RUNS],
+    )
 }
 
 #[test]
@@ -73,27 +124,11 @@ fn frames_on_a_terminated_peers_offer_are_ignored(rt: HostRuntime) -> Result<(),
     let completed = "
         complete peer1            | ok              | acceptor-completes
         comes offerer-completes   | completed peer1 | acceptor-terminates";
-    let by_peer = "
-        comes offerer-terminates  | closed peer1    | acceptor-terminates";
-    for (before, ends) in [(heard, terminated), (live, terminated), (live, completed)] {
-        let parts = [
-            before,
-            ends,
-            ON_PEERS,
-            PEERS_CLOSES,
-            ON_PEERS,
-            PEERS_IS_CLOSED,
-        ];
-        goes(&rt, rt.alloc(), &parts)?;
-    }
-    for before in [heard, live] {
-        goes(
-            &rt,
-            rt.alloc(),
-            &[before, by_peer, ON_PEERS, PEERS_IS_CLOSED],
-        )?;
-    }
-    Ok(())
+    peers_is_terminated(&rt, rt.alloc(), heard, terminated)?;
+    peers_is_terminated(&rt, rt.alloc(), live, terminated)?;
+    peers_is_terminated(&rt, rt.alloc(), live, completed)?;
+    peers_is_closed(&rt, rt.alloc(), heard)?;
+    peers_is_closed(&rt, rt.alloc(), live)
 }
 
 /// An own offer on which five bytes were written and four sent.
@@ -115,14 +150,14 @@ fn a_completion_waits_for_pending_bytes(rt: HostRuntime) -> Result<(), Fail> {
         complete own1             | ok              |
         comes 940501ffc4029101    | credit own1 1   | 94020101c4016f offerer-completes offerer-terminates
         tally own1                | Closing 5 5 0 0 |";
-    goes(&rt, rt.alloc(), &[PENDING, own_first])?;
-    goes(&rt, rt.alloc(), &[PENDING, peers_first])?;
+    a_life(&rt, rt.alloc(), &[PENDING, own_first, RUNS])?;
+    a_life(&rt, rt.alloc(), &[PENDING, peers_first, RUNS])?;
     let waiting = "
         offer 8                   | own1            | offer
         write own1 6869           | ok              |
         complete own1             | ok              |
         comes acceptance          | accepted own1   | 94020101c4026869 offerer-completes";
-    a_life(&rt, rt.alloc(), waiting)
+    a_life(&rt, rt.alloc(), &[waiting])
 }
 
 #[test]
@@ -141,7 +176,7 @@ fn unread_bytes_stay_readable(rt: HostRuntime) -> Result<(), Fail> {
         read peer1 9              | NoChannel       |
         view peer1                | none            |
         tally peer1               | Closed 0 0 3 3  |";
-    a_life(&rt, rt.alloc(), completed)?;
+    a_life(&rt, rt.alloc(), &[completed])?;
     let by_peer = "
         comes 940201ffc4026869    | content own1 2  |
         comes acceptor-terminates | closed own1     | offerer-terminates
@@ -151,7 +186,7 @@ fn unread_bytes_stay_readable(rt: HostRuntime) -> Result<(), Fail> {
         read own1 9               | NoChannel       |
         view own1                 | none            |
         tally own1                | Closed 5 4 2 2  |";
-    goes(&rt, rt.alloc(), &[PENDING, by_peer])
+    a_life(&rt, rt.alloc(), &[PENDING, by_peer, RUNS])
 }
 
 #[test]
@@ -166,7 +201,7 @@ fn terminating_drops_pending_and_unread_bytes(rt: HostRuntime) -> Result<(), Fai
         comes acceptor-terminates | closed own1     |
         view own1                 | none            |
         tally own1                | Closed 5 4 2 0  |";
-    goes(&rt, rt.alloc(), &[PENDING, here])?;
+    a_life(&rt, rt.alloc(), &[PENDING, here, RUNS])?;
     let unaccepted = "
         state                     | Running         | lesser-plain-hello
         comes greater-plain-hello | ready           |
@@ -175,15 +210,7 @@ fn terminating_drops_pending_and_unread_bytes(rt: HostRuntime) -> Result<(), Fai
         comes 04000000010000      | closed peer1    | 04000000010000
         read peer1 9              | NoChannel       |
         tally peer1               | Closed 0 0 2 0  |";
-    let mut end = start(rt.alloc(), Version::One, [0; 16])?;
-    lives(&rt, rt.alloc(), &mut end, unaccepted)
-}
-
-/// An end on whose own offer bytes are pending lives through these rows.
-fn ends(rt: &impl Abort, alloc: Global, rows: &str) -> Result<(), Fail> {
-    let mut end = fresh(alloc)?;
-    lives(rt, alloc, &mut end, PENDING)?;
-    lives(rt, alloc, &mut end, rows)
+    a_life_of(&rt, rt.alloc(), Version::One, &[0; 16], &[unaccepted])
 }
 
 #[test]
@@ -197,7 +224,7 @@ fn the_end_drops_pending_bytes(rt: HostRuntime) -> Result<(), Fail> {
         write own1 61             | Ended(InputEnded) |
         read own1 9               | bytes 6869        |
         tally own1                | Live 5 4 2 2      |";
-    ends(&rt, rt.alloc(), by_input)?;
+    a_life(&rt, rt.alloc(), &[PENDING, by_input])?;
     let by_frame = "
         comes 940201ffc4026869    | content own1 2    |
         comes acceptance          | Ended(Refused(Place(16), AlreadyAccepted)) |
@@ -206,7 +233,7 @@ fn the_end_drops_pending_bytes(rt: HostRuntime) -> Result<(), Fail> {
         state                     | Ended(Refused(Place(16), AlreadyAccepted)) |
         terminate own1            | Ended(Refused(Place(16), AlreadyAccepted)) |
         view own1                 | Live 2 0 4 Some(4) false |";
-    ends(&rt, rt.alloc(), by_frame)
+    a_life(&rt, rt.alloc(), &[PENDING, by_frame])
 }
 
 #[test]
@@ -221,6 +248,5 @@ fn input_ends_before_the_hello(rt: HostRuntime) -> Result<(), Fail> {
         offer 8                   | Ended(InputEnded) |
         input-ends                | ok                |
         state                     | Ended(InputEnded) |";
-    let mut end = start(rt.alloc(), Version::Two, [0; 16])?;
-    lives(&rt, rt.alloc(), &mut end, rows)
+    a_life_of(&rt, rt.alloc(), Version::Two, &[0; 16], &[rows])
 }

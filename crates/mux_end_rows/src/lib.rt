@@ -3,7 +3,11 @@
 #![tactic(auto)]
 
 #[cfg(test)]
+mod answers;
+#[cfg(test)]
 mod closing;
+#[cfg(test)]
+mod crowds;
 #[cfg(test)]
 mod frames;
 #[cfg(test)]
@@ -12,5 +16,7 @@ mod many;
 mod refusals;
 #[cfg(test)]
 mod rows;
+#[cfg(test)]
+mod words;
 #[cfg(test)]
 mod worked;

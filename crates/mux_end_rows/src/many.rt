@@ -1,41 +1,13 @@
 //! Ends with as many channels as they may have.
 
-use crate::rows::{Answer, comes, fresh, lives, offer, sent, start};
-use mux_end::{ChannelKey, MuxEnd, MuxEvent, MuxStep};
-use std::alloc::Global;
+use crate::rows::{a_life, a_life_of};
 use std::test::Fail;
 use wire_base::Version;
 
-/// What is answered to the peer's offer of this channel.
-fn peer_offers(end: &mut MuxEnd, id: u16) -> Answer {
-    let [high, low] = id.to_be_bytes();
-    let offer = [
-        0x94, 0x00, 0xcd, high, low, 0x01, 0xc4, 0x04, 0x92, 0xa1, 0x61, 0x08,
-    ];
-    comes(end, &offer)
-}
-
-/// What is answered to the peer's termination of this own channel.
-fn peer_terminates(end: &mut MuxEnd, id: u16) -> Answer {
-    let [high, low] = id.to_be_bytes();
-    comes(end, &[0x93, 0x04, 0xcd, high, low, 0xff])
-}
-
-fn key(id: u16, own: bool) -> ChannelKey {
-    ChannelKey {
-        id: u64::from(id),
-        own,
-    }
-}
-
 #[test]
 fn an_offer_past_the_most_channels_is_rejected(rt: HostRuntime) -> Result<(), Fail> {
-    let mut end = fresh(rt.alloc())?;
-    for id in 1..=1024 {
-        let offered = MuxStep::Event(MuxEvent::Offered(key(id, false)));
-        assert_eq!(rt; peer_offers(&mut end, id), Answer::Stepped(offered));
-    }
     let rows = "
+        all-are-offered 1 1024         | ok                |
         comes 9400cd040101c40492a16108 | rejected peer1025 | 9304cd0401ff
         offer 8                        | TooManyChannels   |
         accept peer1025 4              | NoChannel         |
@@ -56,50 +28,30 @@ fn an_offer_past_the_most_channels_is_rejected(rt: HostRuntime) -> Result<(), Fa
         known 1025                     | none              |
         tally peer1                    | Closed 0 0 0 0    |
         comes 9400cd040101c40492a16108 | Ended(Refused(Place(12337), IdInUse)) |";
-    lives(&rt, rt.alloc(), &mut end, rows)
+    a_life(&rt, rt.alloc(), &[rows])
 }
 
+/// 1,024 windows of 262,144 bytes are the most that may be given.
 #[test]
 fn closed_channels_make_room(rt: HostRuntime) -> Result<(), Fail> {
-    let alloc = rt.alloc();
-    // 1,024 such windows are the most that may be given.
-    let window = 262_144;
-    let mut end = fresh(alloc)?;
-    for id in 1..=1024 {
-        assert_eq!(rt;
-            offer(&mut end, alloc, "a", window),
-            Answer::Drew(key(id, true))
-        );
-    }
-    sent(&mut end, alloc)?;
     let rows = "
+        all-draw 1 1024 262144    | ok              |
         offer 0                   | BadWindow       |
         offer 1                   | TooManyChannels |
         comes offer               | rejected peer1  | acceptor-terminates
         terminate own1            | ok              | offerer-terminates
         offer 1                   | TooManyChannels |
         comes acceptor-terminates | closed own1     |
-        offer 262145              | WindowsSpent    |";
-    lives(&rt, alloc, &mut end, rows)?;
-    for id in 2..=1024 {
-        let closed = MuxStep::Event(MuxEvent::Closed(key(id, true)));
-        assert_eq!(rt; peer_terminates(&mut end, id), Answer::Stepped(closed));
-    }
-    for id in 1025..=2048 {
-        assert_eq!(rt;
-            offer(&mut end, alloc, "a", window),
-            Answer::Drew(key(id, true))
-        );
-    }
-    sent(&mut end, alloc)?;
-    let rows = "
+        offer 262145              | WindowsSpent    |
+        all-are-closed 2 1024     | ok              |
+        all-draw 1025 2048 262144 | ok              |
         offer 1                   | TooManyChannels |
         tally own1                | Closed 0 0 0 0  |
         tally own2048             | Waiting 0 0 0 0 |
         known 0                   | own1            |
         known 2047                | own2048         |
         known 2048                | none            |";
-    lives(&rt, alloc, &mut end, rows)
+    a_life(&rt, rt.alloc(), &[rows])
 }
 
 #[test]
@@ -132,6 +84,5 @@ fn channels_are_known_in_order(rt: HostRuntime) -> Result<(), Fail> {
         tally peer6               | Heard 0 0 0 0   |
         tally own2                | none            |
         tally peer1               | none            |";
-    let mut end = start(rt.alloc(), Version::Two, [1; 16])?;
-    lives(&rt, rt.alloc(), &mut end, rows)
+    a_life_of(&rt, rt.alloc(), Version::Two, &[1; 16], &[rows])
 }

@@ -1,56 +1,53 @@
 //! Refused calls, each call's refusals in their order.
 
-use crate::rows::{Answer, a_life, fresh, lives, offer, sent, start};
-use mux_end::ChannelKey;
-use mux_items::GREATEST_WINDOW;
+use crate::rows::{a_life, is_told, offers, start};
+use crate::words::{first, number, parted};
+use mux_end::MuxEnd;
 use std::alloc::Global;
 use std::process::Abort;
 use std::test::Fail;
-use wire_base::{Refusal, Version};
+use wire_base::Version;
 
-/// What the end answers to an offer with a name of so many bytes.
-fn offered(alloc: Global, version: Version, length: usize, window: u32) -> Result<Answer, Fail> {
-    let mut name = String::new(alloc);
-    for _ in 0..length {
-        name.push('a')?;
-    }
-    let mut end = start(alloc, version, [0; 16])?;
-    Ok(offer(&mut end, alloc, &name, window))
+/// What is answered to an offer with a name of so many bytes, and a window.
+fn offers_long(alloc: Global, end: &mut MuxEnd, words: &str) -> Result<String, Fail> {
+    let (length, window) = first(words);
+    let name = "a".repeat(alloc, number(length) as usize)?;
+    offers(alloc, end, name.as_str(), number(window))
 }
 
-/// Such an offer is refused so, or draws the first channel.
-fn is_refused(
-    rt: &impl Abort,
-    alloc: Global,
-    version: Version,
-    length: usize,
-    window: u32,
-    refusal: Option<Refusal>,
-) -> Result<(), Fail> {
-    let wanted = match refusal {
-        Some(refusal) => Answer::Refused(refusal),
-        None => Answer::Drew(ChannelKey { id: 1, own: true }),
-    };
-    let answer = offered(alloc, version, length, window)?;
-    assert_eq!(rt; answer, wanted, "{length} {window}");
+/// What it is answered at an end that has no channels.
+fn offered(alloc: Global, version: Version, words: &str) -> Result<String, Fail> {
+    let mut end = start(alloc, version, &[0; 16])?;
+    offers_long(alloc, &mut end, words)
+}
+
+fn is_offered(rt: &impl Abort, alloc: Global, version: Version, row: &str) -> Result<(), Fail> {
+    let (words, wanted) = parted(row);
+    let told = offered(alloc, version, words)?;
+    is_told(rt, told.as_str(), wanted, row);
+    Ok(())
+}
+
+fn are_offered(rt: &impl Abort, alloc: Global, version: Version, rows: &str) -> Result<(), Fail> {
+    for row in rows.lines() {
+        if !row.trim().is_empty() {
+            is_offered(rt, alloc, version, row)?;
+        }
+    }
     Ok(())
 }
 
 #[test]
 fn offers_are_refused(rt: HostRuntime) -> Result<(), Fail> {
-    let rows = [
-        (Version::Two, 1025, 0, Some(Refusal::NotReady)),
-        (Version::Three, 1025, 0, Some(Refusal::NameTooLong)),
-        (Version::Three, 1025, 8, Some(Refusal::NameTooLong)),
-        (Version::Three, 1024, 0, Some(Refusal::BadWindow)),
-        (Version::Three, 0, 16_777_217, Some(Refusal::BadWindow)),
-        (Version::Three, 1024, 16_777_216, None),
-        (Version::Three, 0, 1, None),
-    ];
-    for (version, length, window, refusal) in rows {
-        is_refused(&rt, rt.alloc(), version, length, window, refusal)?;
-    }
-    Ok(())
+    are_offered(&rt, rt.alloc(), Version::Two, "1025 0 | NotReady")?;
+    let rows = "
+        1025 0        | NameTooLong
+        1025 8        | NameTooLong
+        1024 0        | BadWindow
+        0 16777217    | BadWindow
+        1024 16777216 | own1
+        0 1           | own1";
+    are_offered(&rt, rt.alloc(), Version::Three, rows)
 }
 
 #[test]
@@ -64,7 +61,7 @@ fn calls_on_no_channel_are_refused(rt: HostRuntime) -> Result<(), Fail> {
         terminate own1   | NoChannel     |
         view own1        | none          |
         tally own1       | none          |";
-    a_life(&rt, rt.alloc(), own)?;
+    a_life(&rt, rt.alloc(), &[own])?;
     let peers = "
         offer 8          | own1          | offer
         accept peer1 0   | NoChannel     |
@@ -74,7 +71,7 @@ fn calls_on_no_channel_are_refused(rt: HostRuntime) -> Result<(), Fail> {
         terminate peer1  | NoChannel     |
         view peer1       | none          |
         tally peer1      | none          |";
-    a_life(&rt, rt.alloc(), peers)
+    a_life(&rt, rt.alloc(), &[peers])
 }
 
 #[test]
@@ -93,7 +90,7 @@ fn calls_on_an_own_offer_are_refused(rt: HostRuntime) -> Result<(), Fail> {
         complete own1    | NotOpen       |
         terminate own1   | NotOpen       |
         read own1 1      | bytes         |";
-    a_life(&rt, rt.alloc(), rows)
+    a_life(&rt, rt.alloc(), &[rows])
 }
 
 #[test]
@@ -111,7 +108,7 @@ fn calls_on_a_peers_offer_are_refused(rt: HostRuntime) -> Result<(), Fail> {
         read peer1 1           | NotAccepted   |
         complete peer1         | NotOpen       |
         terminate peer1        | NotOpen       |";
-    a_life(&rt, rt.alloc(), unaccepted)?;
+    a_life(&rt, rt.alloc(), &[unaccepted])?;
     let accepted = "
         comes offer              | offered peer1   |
         accept peer1 4           | ok              | acceptance
@@ -131,7 +128,7 @@ fn calls_on_a_peers_offer_are_refused(rt: HostRuntime) -> Result<(), Fail> {
         read peer1 1             | NoChannel       |
         complete peer1           | NoChannel       |
         terminate peer1          | NoChannel       |";
-    a_life(&rt, rt.alloc(), accepted)
+    a_life(&rt, rt.alloc(), &[accepted])
 }
 
 #[test]
@@ -158,18 +155,13 @@ fn calls_of_an_ended_end_are_refused(rt: HostRuntime) -> Result<(), Fail> {
         read peer2 1       | NotAccepted |
         read peer1 1       | bytes 68    |
         read peer1 9       | bytes 69    |";
-    a_life(&rt, rt.alloc(), rows)
+    a_life(&rt, rt.alloc(), &[rows])
 }
 
 #[test]
 fn own_windows_are_bounded_together(rt: HostRuntime) -> Result<(), Fail> {
-    let alloc = rt.alloc();
-    let mut end = fresh(alloc)?;
-    for _ in 0..15 {
-        offer(&mut end, alloc, "a", GREATEST_WINDOW);
-    }
-    sent(&mut end, alloc)?;
     let rows = "
+        all-draw 1 15 16777216    | ok              |
         offer 16777215            | own16           | 94001001c40892a161ce00ffffff
         comes offer               | offered peer1   |
         accept peer1 0            | BadWindow       |
@@ -183,5 +175,5 @@ fn own_windows_are_bounded_together(rt: HostRuntime) -> Result<(), Fail> {
         offer 1                   | WindowsSpent    |
         comes acceptor-terminates | closed own1     |
         offer 16777216            | own17           | 94001101c40892a161ce01000000";
-    lives(&rt, alloc, &mut end, rows)
+    a_life(&rt, rt.alloc(), &[rows])
 }

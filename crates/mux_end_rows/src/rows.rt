@@ -1,319 +1,221 @@
 //! Rows of text, and the end that lives through them.
 
-use mux_end::{ChannelKey, ChannelView, MuxEnd, MuxEvent, MuxStep, Tally};
+use crate::answers::{
+    of_call, of_drawn, of_fault, of_flag, of_known, of_read, of_state, of_step, of_tally, of_view, word,
+};
+use crate::crowds::crowds;
+use crate::words::{bytes, first, key, number, parted};
+use mux_end::{ChannelKey, MuxEnd};
 use std::alloc::Global;
 use std::process::Abort;
 use std::test::Fail;
-use wire_base::{CallFault, EndState, Refusal, Text, Version};
+use wire_base::{Text, Version};
 
-/// Names of bytes: greetings, and frames of version 3 on channel 1. Its offer is that of `a` with window 8, its
-/// acceptance has window 4, and the other frames have no payload.
-const NAMES: &str = "
-    lesser-plain-hello  2fdf1d5000000000000000000000000000000000
-    greater-plain-hello 2fdf1d5001010101010101010101010101010101
-    lesser-hello        92920200c41000000000000000000000000000000000
-    greater-hello       92920200c41001010101010101010101010101010101
-    offer               94000101c40492a16108
-    acceptance          940101ffc4029104
-    offerer-completes   93030101
-    acceptor-completes  930301ff
-    offerer-terminates  93040101
-    acceptor-terminates 930401ff";
-
-/// The digits of a name, or the word itself.
-fn hex(word: &str) -> &str {
-    for line in NAMES.lines() {
-        if let Some((name, digits)) = line.trim().split_once(' ')
-            && name == word
-        {
-            return digits.trim();
-        }
-    }
-    word
+pub fn start(alloc: Global, version: Version, nonce: &[u8; 16]) -> Result<MuxEnd, Fail> {
+    Ok(MuxEnd::start(alloc, version, *nonce)?)
 }
 
-fn digit(letter: u8) -> u8 {
-    match letter {
-        b'0'..=b'9' => letter - b'0',
-        b'a'..=b'f' => letter - b'a' + 10,
-        _ => 0,
-    }
+fn offer(alloc: Global, end: &mut MuxEnd, name: &Text, window: u32) -> Result<String, Fail> {
+    of_drawn(alloc, end.offer(name, window))
 }
 
-/// The bytes of all these words.
-fn bytes(alloc: Global, words: &str) -> Result<Vec<u8>, Fail> {
-    let mut bytes = Vec::new(alloc);
-    for word in words.split_whitespace() {
-        for pair in hex(word).as_bytes().chunks_exact(2) {
-            bytes.push(digit(pair[0]) << 4 | digit(pair[1]))?;
-        }
-    }
-    Ok(bytes)
+pub fn offers(alloc: Global, end: &mut MuxEnd, name: &str, window: u32) -> Result<String, Fail> {
+    let name = Text::from_str(alloc, name)?;
+    offer(alloc, end, &name, window)
 }
 
-fn number(word: &str) -> u32 {
-    word.parse::<u32>().unwrap_or(0)
+fn accept(alloc: Global, end: &mut MuxEnd, key: ChannelKey, window: u32) -> Result<String, Fail> {
+    of_call(alloc, end.accept(key, window))
 }
 
-/// A channel is `own` or `peer` and its id.
-fn key(word: &str) -> ChannelKey {
-    match word.strip_prefix("own") {
-        Some(id) => ChannelKey {
-            id: u64::from(number(id)),
-            own: true,
-        },
-        None => ChannelKey {
-            id: u64::from(number(word.strip_prefix("peer").unwrap_or(""))),
-            own: false,
-        },
-    }
+fn accepts(alloc: Global, end: &mut MuxEnd, words: &str) -> Result<String, Fail> {
+    let (channel, window) = first(words);
+    accept(alloc, end, key(channel), number(window))
 }
 
-#[derive(Clone, Copy, Debug, PartialEq, Eq)]
-pub enum Answer {
-    Done,
-    Drew(ChannelKey),
-    /// Bytes were read.
-    Moved,
-    Refused(Refusal),
-    Stepped(MuxStep),
-    Is(EndState),
-    IsReady(bool),
-    Viewed(Option<ChannelView>),
-    Tallied(Option<Tally>),
-    Knows(Option<ChannelKey>),
-    NoMemory,
-    /// The count of bytes that were read isn't theirs.
-    Miscounted,
-    NoSuchCall,
+fn write(alloc: Global, end: &mut MuxEnd, key: ChannelKey, bytes: &[u8]) -> Result<String, Fail> {
+    of_call(alloc, end.write(key, bytes))
 }
 
-use Answer::*;
-
-fn of_fault(fault: CallFault) -> Answer {
-    match fault {
-        CallFault::Refused(refusal) => Refused(refusal),
-        CallFault::OutOfMemory => NoMemory,
-    }
+fn writes(alloc: Global, end: &mut MuxEnd, words: &str) -> Result<String, Fail> {
+    let (channel, words) = first(words);
+    let bytes = bytes(alloc, words)?;
+    write(alloc, end, key(channel), bytes.as_slice())
 }
 
-fn of_call(answer: Result<(), CallFault>) -> Answer {
-    match answer {
-        Ok(()) => Done,
-        Err(fault) => of_fault(fault),
-    }
-}
-
-pub fn offer(end: &mut MuxEnd, alloc: Global, name: &str, window: u32) -> Answer {
-    let Ok(name) = Text::from_str(alloc, name) else {
-        return NoMemory;
-    };
-    match end.offer(&name, window) {
-        Ok(key) => Drew(key),
-        Err(fault) => of_fault(fault),
-    }
-}
-
-fn accept(end: &mut MuxEnd, key: ChannelKey, window: u32) -> Answer {
-    of_call(end.accept(key, window))
-}
-
-pub fn write(end: &mut MuxEnd, key: ChannelKey, bytes: &[u8]) -> Answer {
-    of_call(end.write(key, bytes))
-}
-
-fn read(end: &mut MuxEnd, key: ChannelKey, max: usize, into: &mut Vec<u8>) -> Answer {
+/// The bytes go to `into`.
+fn read(
+    alloc: Global,
+    end: &mut MuxEnd,
+    key: ChannelKey,
+    max: usize,
+    into: &mut Vec<u8>,
+) -> Result<String, Fail> {
     match end.read(key, max, into) {
-        Ok(count) if count == into.len() => Moved,
-        Ok(_) => Miscounted,
-        Err(fault) => of_fault(fault),
+        Ok(count) => of_read(alloc, count, into.as_slice()),
+        Err(fault) => of_fault(alloc, fault),
     }
 }
 
-fn complete(end: &mut MuxEnd, key: ChannelKey) -> Answer {
-    of_call(end.complete(key))
+fn reads(alloc: Global, end: &mut MuxEnd, words: &str) -> Result<String, Fail> {
+    let (channel, max) = first(words);
+    let max = number(max) as usize;
+    read(alloc, end, key(channel), max, &mut Vec::new(alloc))
 }
 
-fn terminate(end: &mut MuxEnd, key: ChannelKey) -> Answer {
-    of_call(end.terminate(key))
+fn completes(alloc: Global, end: &mut MuxEnd, key: ChannelKey) -> Result<String, Fail> {
+    of_call(alloc, end.complete(key))
 }
 
-fn feed(end: &mut MuxEnd, bytes: &[u8]) -> Answer {
+fn terminates(alloc: Global, end: &mut MuxEnd, key: ChannelKey) -> Result<String, Fail> {
+    of_call(alloc, end.terminate(key))
+}
+
+fn feed(alloc: Global, end: &mut MuxEnd, bytes: &[u8]) -> Result<String, Fail> {
     match end.feed(bytes) {
-        Ok(state) => Is(state),
-        Err(_) => NoMemory,
+        Ok(state) => of_state(alloc, state),
+        Err(_) => word(alloc, "OutOfMemory"),
     }
 }
 
-fn step(end: &mut MuxEnd) -> Answer {
-    Stepped(end.step())
+fn feeds(alloc: Global, end: &mut MuxEnd, words: &str) -> Result<String, Fail> {
+    let bytes = bytes(alloc, words)?;
+    feed(alloc, end, bytes.as_slice())
+}
+
+fn steps(alloc: Global, end: &mut MuxEnd) -> Result<String, Fail> {
+    of_step(alloc, end.step())
+}
+
+fn is_fed(end: &mut MuxEnd, bytes: &[u8]) -> bool {
+    end.feed(bytes).is_ok()
+}
+
+fn come(alloc: Global, end: &mut MuxEnd, bytes: &[u8]) -> Result<String, Fail> {
+    if is_fed(end, bytes) {
+        steps(alloc, end)
+    } else {
+        word(alloc, "OutOfMemory")
+    }
 }
 
 /// Bytes come, and the end takes one step.
-pub fn comes(end: &mut MuxEnd, bytes: &[u8]) -> Answer {
-    match feed(end, bytes) {
-        NoMemory => NoMemory,
-        _ => step(end),
-    }
+pub fn comes(alloc: Global, end: &mut MuxEnd, words: &str) -> Result<String, Fail> {
+    let bytes = bytes(alloc, words)?;
+    come(alloc, end, bytes.as_slice())
 }
 
-fn end_of_input(end: &mut MuxEnd) -> Answer {
+fn input_ends(alloc: Global, end: &mut MuxEnd) -> Result<String, Fail> {
     end.end_of_input();
-    Done
+    word(alloc, "ok")
 }
 
-fn state(end: &MuxEnd) -> Answer {
-    Is(end.state())
+fn state(alloc: Global, end: &MuxEnd) -> Result<String, Fail> {
+    of_state(alloc, end.state())
 }
 
-fn ready(end: &MuxEnd) -> Answer {
-    IsReady(end.ready())
+fn ready(alloc: Global, end: &MuxEnd) -> Result<String, Fail> {
+    of_flag(alloc, end.ready())
 }
 
-fn view(end: &MuxEnd, key: ChannelKey) -> Answer {
-    Viewed(end.view(key))
+fn view(alloc: Global, end: &MuxEnd, key: ChannelKey) -> Result<String, Fail> {
+    of_view(alloc, end.view(key))
 }
 
-fn tally(end: &MuxEnd, key: ChannelKey) -> Answer {
-    Tallied(end.tally(key))
+fn tally(alloc: Global, end: &MuxEnd, key: ChannelKey) -> Result<String, Fail> {
+    of_tally(alloc, end.tally(key))
 }
 
-fn known(end: &MuxEnd, i: usize) -> Answer {
-    Knows(end.known(i))
-}
-
-/// All output, which is then taken from the end.
-pub fn sent(end: &mut MuxEnd, alloc: Global) -> Result<Vec<u8>, Fail> {
-    let output = Vec::from_slice(alloc, end.pending_output())?;
-    end.took(end.pending_output().len());
-    Ok(output)
-}
-
-/// What this call answers. What it reads goes to `into`.
-fn happens(
-    end: &mut MuxEnd,
-    alloc: Global,
-    call: &str,
-    into: &mut Vec<u8>,
-) -> Result<Answer, Fail> {
-    let mut words = call.split_whitespace();
-    let name = words.next().unwrap_or("");
-    let first = words.next().unwrap_or("");
-    let second = words.next().unwrap_or("");
-    let answer = match name {
-        "offer" => offer(end, alloc, "a", number(first)),
-        "accept" => accept(end, key(first), number(second)),
-        "write" => write(end, key(first), &bytes(alloc, second)?),
-        "read" => read(end, key(first), number(second) as usize, into),
-        "complete" => complete(end, key(first)),
-        "terminate" => terminate(end, key(first)),
-        "comes" => comes(end, &bytes(alloc, first)?),
-        "feed" => feed(end, &bytes(alloc, first)?),
-        "input-ends" => end_of_input(end),
-        _ => looks(end, name, first),
-    };
-    Ok(answer)
+fn known(alloc: Global, end: &MuxEnd, i: usize) -> Result<String, Fail> {
+    of_known(alloc, end.known(i))
 }
 
 /// What is seen of the end.
-fn looks(end: &MuxEnd, name: &str, word: &str) -> Answer {
+fn looks(alloc: Global, end: &MuxEnd, name: &str, words: &str) -> Result<String, Fail> {
     match name {
-        "state" => state(end),
-        "ready" => ready(end),
-        "view" => view(end, key(word)),
-        "tally" => tally(end, key(word)),
-        "known" => known(end, number(word) as usize),
-        _ => NoSuchCall,
+        "state" => state(alloc, end),
+        "ready" => ready(alloc, end),
+        "view" => view(alloc, end, key(words)),
+        "tally" => tally(alloc, end, key(words)),
+        "known" => known(alloc, end, number(words) as usize),
+        _ => word(alloc, "no such call"),
     }
 }
 
-fn key_text(alloc: Global, key: ChannelKey) -> Result<String, Fail> {
-    let side = if key.own { "own" } else { "peer" };
-    Ok(format!(in alloc; "{side}{}", key.id)?)
-}
-
-fn event_text(alloc: Global, event: MuxEvent) -> Result<String, Fail> {
-    let (word, key) = match event {
-        MuxEvent::Ready => return Ok(format!(in alloc; "ready")?),
-        MuxEvent::Content(key, count) => {
-            return Ok(format!(in alloc; "content {} {count}", key_text(alloc, key)?)?);
-        }
-        MuxEvent::Credit(key, count) => {
-            return Ok(format!(in alloc; "credit {} {count}", key_text(alloc, key)?)?);
-        }
-        MuxEvent::Offered(key) => ("offered", key),
-        MuxEvent::Rejected(key) => ("rejected", key),
-        MuxEvent::Accepted(key) => ("accepted", key),
-        MuxEvent::Completed(key) => ("completed", key),
-        MuxEvent::Closed(key) => ("closed", key),
-        MuxEvent::Ignored(key) => ("ignored", key),
-    };
-    Ok(format!(in alloc; "{word} {}", key_text(alloc, key)?)?)
-}
-
-/// The phase, the unread, pending, emitted and granted bytes, and whether the peer has completed its writing.
-fn view_text(alloc: Global, view: ChannelView) -> Result<String, Fail> {
-    Ok(format!(in alloc;
-        "{:?} {} {} {} {:?} {}",
-        view.phase, view.unread, view.pending, view.emitted, view.granted, view.completed
-    )?)
-}
-
-/// The phase, and the written, emitted, taken and handed bytes.
-fn tally_text(alloc: Global, tally: Tally) -> Result<String, Fail> {
-    Ok(format!(in alloc;
-        "{:?} {} {} {} {}",
-        tally.phase, tally.written, tally.emitted, tally.taken, tally.handed
-    )?)
-}
-
-fn bytes_text(alloc: Global, bytes: &[u8]) -> Result<String, Fail> {
-    let mut text = format!(in alloc; "bytes ")?;
-    for byte in bytes {
-        write!(text, "{byte:02x}")?;
-    }
-    Ok(text)
-}
-
-fn answer_text(alloc: Global, answer: Answer, read: &[u8]) -> Result<String, Fail> {
-    match answer {
-        Done => Ok(format!(in alloc; "ok")?),
-        Drew(key) | Knows(Some(key)) => key_text(alloc, key),
-        Moved => bytes_text(alloc, read),
-        Refused(refusal) => Ok(format!(in alloc; "{refusal:?}")?),
-        Stepped(MuxStep::Event(event)) => event_text(alloc, event),
-        Stepped(step) => Ok(format!(in alloc; "{step:?}")?),
-        Is(state) => Ok(format!(in alloc; "{state:?}")?),
-        IsReady(ready) => Ok(format!(in alloc; "{ready}")?),
-        Viewed(Some(view)) => view_text(alloc, view),
-        Tallied(Some(tally)) => tally_text(alloc, tally),
-        Viewed(None) | Tallied(None) | Knows(None) => Ok(format!(in alloc; "none")?),
-        NoMemory | Miscounted | NoSuchCall => Ok(format!(in alloc; "{answer:?}")?),
+/// What the peer does.
+fn hears(alloc: Global, end: &mut MuxEnd, name: &str, words: &str) -> Result<String, Fail> {
+    match name {
+        "comes" => comes(alloc, end, words),
+        "feed" => feeds(alloc, end, words),
+        "input-ends" => input_ends(alloc, end),
+        "all-draw" | "all-are-offered" | "all-are-closed" => crowds(alloc, end, name, words),
+        _ => looks(alloc, end, name, words),
     }
 }
 
-pub fn start(alloc: Global, version: Version, nonce: [u8; 16]) -> Result<MuxEnd, Fail> {
-    Ok(MuxEnd::start(alloc, version, nonce)?)
+/// What this call answers.
+fn happens(alloc: Global, end: &mut MuxEnd, call: &str) -> Result<String, Fail> {
+    let (name, words) = first(call);
+    match name {
+        "offer" => offers(alloc, end, "a", number(words)),
+        "accept" => accepts(alloc, end, words),
+        "write" => writes(alloc, end, words),
+        "read" => reads(alloc, end, words),
+        "complete" => completes(alloc, end, key(words)),
+        "terminate" => terminates(alloc, end, key(words)),
+        _ => hears(alloc, end, name, words),
+    }
 }
 
-/// An end of version 3.
-pub fn fresh(alloc: Global) -> Result<MuxEnd, Fail> {
-    start(alloc, Version::Three, [7; 16])
+/// All output is taken from the end.
+pub fn goes_out(end: &mut MuxEnd) {
+    end.took(end.pending_output().len());
+}
+
+pub fn is_told(rt: &impl Abort, told: &str, wanted: &str, row: &str) {
+    assert_eq!(rt; told.trim(), wanted, "at {row}");
+}
+
+fn are_same(rt: &impl Abort, bytes: &[u8], wanted: &[u8], row: &str) {
+    assert_eq!(rt; bytes, wanted, "at {row}");
+}
+
+/// The call is answered so.
+fn answers(
+    rt: &impl Abort,
+    alloc: Global,
+    end: &mut MuxEnd,
+    (call, wanted): (&str, &str),
+    row: &str,
+) -> Result<(), Fail> {
+    let told = happens(alloc, end, call)?;
+    is_told(rt, told.as_str(), wanted, row);
+    Ok(())
+}
+
+/// All output is these bytes, and is then taken from the end.
+fn sends(
+    rt: &impl Abort,
+    alloc: Global,
+    end: &mut MuxEnd,
+    words: &str,
+    row: &str,
+) -> Result<(), Fail> {
+    let bytes = bytes(alloc, words)?;
+    are_same(rt, end.pending_output(), bytes.as_slice(), row);
+    goes_out(end);
+    Ok(())
 }
 
 /// A row is a call, its answer, and the bytes that are sent then, between bars.
 fn lives_once(rt: &impl Abort, alloc: Global, end: &mut MuxEnd, row: &str) -> Result<(), Fail> {
-    let (call, wanted) = row.split_once('|').unwrap_or((row, ""));
-    let (wanted, output) = wanted.split_once('|').unwrap_or((wanted, ""));
-    let mut read = Vec::new(alloc);
-    let answer = happens(end, alloc, call, &mut read)?;
-    let answer = answer_text(alloc, answer, &read)?;
-    assert_eq!(rt; answer.as_str().trim(), wanted.trim(), "at {row}");
-    assert_eq!(rt; sent(end, alloc)?, bytes(alloc, output)?, "at {row}");
-    Ok(())
+    let (call, wanted) = parted(row);
+    let (wanted, output) = parted(wanted);
+    answers(rt, alloc, end, (call, wanted), row)?;
+    sends(rt, alloc, end, output, row)
 }
 
-pub fn lives(rt: &impl Abort, alloc: Global, end: &mut MuxEnd, rows: &str) -> Result<(), Fail> {
+fn lives(rt: &impl Abort, alloc: Global, end: &mut MuxEnd, rows: &str) -> Result<(), Fail> {
     for row in rows.lines() {
         if !row.trim().is_empty() {
             lives_once(rt, alloc, end, row)?;
@@ -322,7 +224,31 @@ pub fn lives(rt: &impl Abort, alloc: Global, end: &mut MuxEnd, rows: &str) -> Re
     Ok(())
 }
 
-/// An end of version 3 lives through the rows.
-pub fn a_life(rt: &impl Abort, alloc: Global, rows: &str) -> Result<(), Fail> {
-    lives(rt, alloc, &mut fresh(alloc)?, rows)
+fn lives_through(
+    rt: &impl Abort,
+    alloc: Global,
+    end: &mut MuxEnd,
+    parts: &[&str],
+) -> Result<(), Fail> {
+    for rows in parts {
+        lives(rt, alloc, end, rows)?;
+    }
+    Ok(())
+}
+
+/// An end of this version and nonce lives through the rows of each part.
+pub fn a_life_of(
+    rt: &impl Abort,
+    alloc: Global,
+    version: Version,
+    nonce: &[u8; 16],
+    parts: &[&str],
+) -> Result<(), Fail> {
+    let mut end = start(alloc, version, nonce)?;
+    lives_through(rt, alloc, &mut end, parts)
+}
+
+/// An end of version 3 lives through the rows of each part.
+pub fn a_life(rt: &impl Abort, alloc: Global, parts: &[&str]) -> Result<(), Fail> {
+    a_life_of(rt, alloc, Version::Three, &[7; 16], parts)
 }
