@@ -1,45 +1,53 @@
 //! Frames of version 1.
 
-use frame_text::FrameCodec;
-use frame_v1::V1Codec;
+use crate::fronts::{Codec, Front, decoded, fits_fixed, push};
+use crate::rows::{are_same, reads, tells};
+use crate::words::{bytes, first, number, parted};
 use std::alloc::Global;
 use std::process::Abort;
 use std::test::Fail;
-use wire_base::{Blob, Code, Frame, FrameStep, Origin, Payload, Place, Reason};
+use wire_base::{Blob, Code, Frame, FrameStep, Origin, Payload};
 
-fn is_short(alloc: Global, bytes: &[u8]) -> bool {
-    matches!(
-        V1Codec::new().decode(alloc, bytes, Place(7)),
-        FrameStep::Short
-    )
+#[test]
+fn reads_each_code(rt: HostRuntime) -> Result<(), Fail> {
+    let rows = "
+        00 00000001 0001 61         | Offer 1                   | 00 00000001 0001 61
+        00 00000002 0001 61         | Offer 2                   | 00 00000002 0001 61
+        00 00000001 0000            | Offer 1                   | 00 00000001 0000
+        00 01020304 0002 c3a9       | Offer 16909060            | 00 01020304 0002 c3a9
+        01 00000001 0000            | OfferAccepted 1           | 01 00000001 0000
+        02 00000003 0005 68656c6c6f | Content 3                 | 02 00000003 0005 68656c6c6f
+        02 ffffffff 0000            | Content 4294967295        | 02 ffffffff 0000
+        02 01020304 0102 07*258     | Content 16909060          | 02 01020304 0102 07*258
+        03 00000003 0000            | ContentWritingCompleted 3 | 03 00000003 0000
+        04 00000003 0000            | ChannelTerminated 3       | 04 00000003 0000";
+    reads(&rt, rt.alloc(), Codec::Fixed, rows)
 }
 
-fn got(alloc: Global, bytes: &[u8]) -> Result<(Frame, usize), &'static str> {
-    match V1Codec::new().decode(alloc, bytes, Place(7)) {
-        FrameStep::Got(frame, size) => Ok((frame, size)),
-        _ => Err("no frame"),
-    }
+#[test]
+fn ignores_a_payload_where_none_is_due(rt: HostRuntime) -> Result<(), Fail> {
+    let rows = "
+        01 00000001 0002 ffff | OfferAccepted 1           | 01 00000001 0000
+        03 00000001 0001 ff   | ContentWritingCompleted 1 | 03 00000001 0000
+        04 00000001 0001 ff   | ChannelTerminated 1       | 04 00000001 0000";
+    reads(&rt, rt.alloc(), Codec::Fixed, rows)
 }
 
-fn refusal(alloc: Global, bytes: &[u8]) -> Option<(Place, Reason)> {
-    match V1Codec::new().decode(alloc, bytes, Place(100)) {
-        FrameStep::Refused(place, reason) => Some((place, reason)),
-        _ => None,
-    }
-}
-
-fn fits(frame: &Frame) -> bool {
-    V1Codec::new().fits(frame)
-}
-
-/// What is written behind some bytes.
-fn written(alloc: Global, front: &[u8], frame: &Frame) -> Result<Vec<u8>, Fail> {
-    let codec = V1Codec::new();
-    let mut text = front.to_vec(alloc)?;
-    if codec.fits(frame) {
-        codec.encode(frame, &mut text)?;
-    }
-    Ok(text)
+/// Each front is refused as soon as it is in, whatever stands behind it, and not before.
+#[test]
+fn refuses_at_the_first_field_that_breaks_a_rule(rt: HostRuntime) -> Result<(), Fail> {
+    let rows = "
+        05                        | 000000010000 | 0 BadCode
+        05                        | 00000000     | 0 BadCode
+        06                        | 000000010000 | 0 BadCode
+        ff                        |              | 0 BadCode
+        02 00000000               |              | 1 BadId
+        00 00000000               | 0001 ff      | 1 BadId
+        00 00000001 0001 ff       |              | 7 BadName
+        00 00000001 0002 61 ff    | 00           | 7 BadName
+        00 00000001 0001 c3       | a9           | 7 BadName
+        00 00000001 0003 ed a0 80 | 05           | 7 BadName";
+    tells(&rt, rt.alloc(), &Front::Frame(Codec::Fixed), rows)
 }
 
 /// A frame of this content.
@@ -52,190 +60,72 @@ fn content(alloc: Global, id: u64, bytes: &[u8]) -> Result<Frame, Fail> {
     })
 }
 
-/// A frame is read when its last byte is in and not before, whatever follows, and then written in its shortest spelling.
-fn reads(
-    rt: &impl Abort,
-    alloc: Global,
-    code: Code,
-    id: u64,
-    spelling: &[u8],
-    shortest: &[u8],
-) -> Result<(), Fail> {
-    for end in 0..spelling.len() {
-        assert!(rt; is_short(alloc, &spelling[..end]), "{spelling:?} at {end}");
-    }
-    let mut stream = Vec::from_slice(alloc, spelling)?;
-    for following in [0, 0xff, 5] {
-        let (frame, size) = got(alloc, &stream)?;
-        assert_eq!(rt;
-            (frame.code, frame.id, size),
-            (code, id, spelling.len()),
-            "{spelling:?}"
-        );
-        assert_eq!(rt;
-            written(alloc, &[], &frame)?.as_slice(),
-            shortest,
-            "{spelling:?}"
-        );
-        stream.push(following)?;
-    }
-    Ok(())
-}
-
-#[test]
-fn reads_each_code(rt: HostRuntime) -> Result<(), Fail> {
-    let texts: [(Code, u64, &[u8]); 9] = [
-        (Code::Offer, 1, b"\x00\x00\x00\x00\x01\x00\x01a"),
-        (Code::Offer, 2, b"\x00\x00\x00\x00\x02\x00\x01a"),
-        (Code::Offer, 1, b"\x00\x00\x00\x00\x01\x00\x00"),
-        (
-            Code::Offer,
-            0x01020304,
-            b"\x00\x01\x02\x03\x04\x00\x02\xc3\xa9",
-        ),
-        (Code::OfferAccepted, 1, b"\x01\x00\x00\x00\x01\x00\x00"),
-        (Code::Content, 3, b"\x02\x00\x00\x00\x03\x00\x05hello"),
-        (Code::Content, 0xffffffff, b"\x02\xff\xff\xff\xff\x00\x00"),
-        (
-            Code::ContentWritingCompleted,
-            3,
-            b"\x03\x00\x00\x00\x03\x00\x00",
-        ),
-        (Code::ChannelTerminated, 3, b"\x04\x00\x00\x00\x03\x00\x00"),
-    ];
-    for (code, id, text) in texts {
-        reads(&rt, rt.alloc(), code, id, text, text)?;
-    }
-    Ok(())
-}
-
-#[test]
-fn ignores_a_payload_where_none_is_due(rt: HostRuntime) -> Result<(), Fail> {
-    let cases: [(Code, &[u8], &[u8]); 3] = [
-        (
-            Code::OfferAccepted,
-            b"\x01\x00\x00\x00\x01\x00\x02\xff\xff",
-            b"\x01\x00\x00\x00\x01\x00\x00",
-        ),
-        (
-            Code::ContentWritingCompleted,
-            b"\x03\x00\x00\x00\x01\x00\x01\xff",
-            b"\x03\x00\x00\x00\x01\x00\x00",
-        ),
-        (
-            Code::ChannelTerminated,
-            b"\x04\x00\x00\x00\x01\x00\x01\xff",
-            b"\x04\x00\x00\x00\x01\x00\x00",
-        ),
-    ];
-    for (code, spelling, shortest) in cases {
-        reads(&rt, rt.alloc(), code, 1, spelling, shortest)?;
-    }
-    Ok(())
-}
-
-/// Bytes are refused as soon as so many of them are in, and not before.
-fn refuses(
-    rt: &impl Abort,
-    alloc: Global,
-    bytes: &[u8],
-    known: usize,
-    offset: u32,
-    reason: Reason,
-) {
-    for end in 0..=bytes.len() {
-        if end < known {
-            assert!(rt; is_short(alloc, &bytes[..end]), "{bytes:?} at {end}");
-        } else {
-            let refused = Some((Place(100 + u64::from(offset)), reason));
-            assert_eq!(rt;
-                refusal(alloc, &bytes[..end]),
-                refused,
-                "{bytes:?} at {end}"
-            );
-        }
-    }
-}
-
-#[test]
-fn refuses_at_the_first_field_that_breaks_a_rule(rt: HostRuntime) {
-    let cases: [(&[u8], usize, u32, Reason); 10] = [
-        (b"\x05\x00\x00\x00\x01\x00\x00", 1, 0, Reason::BadCode),
-        (b"\x05\x00\x00\x00\x00", 1, 0, Reason::BadCode),
-        (b"\x06\x00\x00\x00\x01\x00\x00", 1, 0, Reason::BadCode),
-        (b"\xff", 1, 0, Reason::BadCode),
-        (b"\x02\x00\x00\x00\x00", 5, 1, Reason::BadId),
-        (b"\x00\x00\x00\x00\x00\x00\x01\xff", 5, 1, Reason::BadId),
-        (b"\x00\x00\x00\x00\x01\x00\x01\xff", 8, 7, Reason::BadName),
-        (
-            b"\x00\x00\x00\x00\x01\x00\x02a\xff\x00",
-            9,
-            7,
-            Reason::BadName,
-        ),
-        (
-            b"\x00\x00\x00\x00\x01\x00\x01\xc3\xa9",
-            8,
-            7,
-            Reason::BadName,
-        ),
-        (
-            b"\x00\x00\x00\x00\x01\x00\x03\xed\xa0\x80\x05",
-            10,
-            7,
-            Reason::BadName,
-        ),
-    ];
-    for (bytes, known, offset, reason) in cases {
-        refuses(&rt, rt.alloc(), bytes, known, offset, reason);
-    }
-}
-
-const LONG: [u8; 0x0102] = [7; 0x0102];
-
-/// Whether these bytes are one frame of this content.
-fn is_content(alloc: Global, text: &[u8], content: &[u8]) -> bool {
-    match got(alloc, text) {
-        Ok((frame, size)) => size == text.len() && carries(&frame.payload, content),
-        Err(_) => false,
-    }
-}
-
-fn carries(payload: &Payload, content: &[u8]) -> bool {
-    match payload {
-        Payload::Content(bytes) => bytes.as_bytes() == content,
-        _ => false,
-    }
-}
-
-/// A byte, and behind it a frame of content of 0x0102 bytes.
-fn long_text(alloc: Global) -> Result<Vec<u8>, Fail> {
-    let mut text = Vec::from_slice(alloc, b"\x09\x02\x01\x02\x03\x04\x01\x02")?;
-    text.extend_from_slice(&LONG)?;
+/// A byte, and the content behind it.
+fn written(alloc: Global, bytes: &[u8]) -> Result<Vec<u8>, Fail> {
+    let mut text = Vec::from_slice(alloc, b"\x09")?;
+    let frame = content(alloc, 0x01020304, bytes)?;
+    push(&mut text, Codec::Fixed, &frame)?;
     Ok(text)
+}
+
+fn is_written(rt: &impl Abort, alloc: Global, bytes: &[u8], wanted: &[u8]) -> Result<(), Fail> {
+    let text = written(alloc, bytes)?;
+    are_same(rt, text.as_slice(), wanted);
+    Ok(())
+}
+
+/// The content that was got, if any.
+fn carried(step: &FrameStep) -> &[u8] {
+    match step {
+        FrameStep::Got(frame, _) => match &frame.payload {
+            Payload::Content(bytes) => bytes.as_bytes(),
+            _ => b"",
+        },
+        _ => b"",
+    }
+}
+
+fn is_carried(rt: &impl Abort, alloc: Global, text: &[u8], bytes: &[u8]) {
+    let step = decoded(alloc, Codec::Fixed, text);
+    are_same(rt, carried(&step), bytes);
+}
+
+/// The bytes are the content of a frame with this text.
+fn is_spelled(rt: &impl Abort, alloc: Global, bytes: &[u8], text: &[u8]) -> Result<(), Fail> {
+    is_written(rt, alloc, bytes, text)?;
+    is_carried(rt, alloc, text.get(1..).unwrap_or(b""), bytes);
+    Ok(())
 }
 
 #[test]
 fn writes_the_high_byte_of_a_length_first(rt: HostRuntime) -> Result<(), Fail> {
-    let text = long_text(rt.alloc())?;
-    let frame = content(rt.alloc(), 0x01020304, &LONG)?;
-    assert_eq!(rt; written(rt.alloc(), b"\x09", &frame)?, text);
-    assert!(rt; is_content(rt.alloc(), text.get(1..).unwrap_or(&[]), &LONG));
+    let long = bytes(rt.alloc(), "07*258")?;
+    let text = bytes(rt.alloc(), "09 02 01020304 0102 07*258")?;
+    is_spelled(&rt, rt.alloc(), long.as_slice(), text.as_slice())
+}
+
+/// Whether a frame of so many bytes of content on this channel fits.
+fn fits(alloc: Global, count: u64, id: u64) -> Result<bool, Fail> {
+    let bytes = vec![in alloc; 0; count as usize]?;
+    let frame = content(alloc, id, bytes.as_slice())?;
+    Ok(fits_fixed(&frame))
+}
+
+fn is_fit(rt: &impl Abort, fits: bool, wanted: &str, row: &str) {
+    assert!(rt; fits == (wanted == "fits"), "{row}");
+}
+
+fn fits_so(rt: &impl Abort, alloc: Global, row: &str) -> Result<(), Fail> {
+    let (words, wanted) = parted(row);
+    let (count, id) = first(words);
+    is_fit(rt, fits(alloc, number(count), number(id))?, wanted, row);
     Ok(())
 }
 
 #[test]
 fn fits_what_its_fields_hold(rt: HostRuntime) -> Result<(), Fail> {
-    let alloc = rt.alloc();
-    for (len, id, wanted) in [
-        (0xffff, 0xffff_ffff, true),
-        (0x1_0000, 1, false),
-        (1, 0x1_0000_0000, false),
-        (1, 0, false),
-    ] {
-        let bytes = vec![in alloc; 0; len]?;
-        let frame = content(alloc, id, &bytes)?;
-        assert_eq!(rt; fits(&frame), wanted, "{len} {id}");
-    }
-    Ok(())
+    fits_so(&rt, rt.alloc(), "65535 4294967295 | fits")?;
+    fits_so(&rt, rt.alloc(), "65536 1          | no")?;
+    fits_so(&rt, rt.alloc(), "1 4294967296     | no")?;
+    fits_so(&rt, rt.alloc(), "1 0              | no")
 }

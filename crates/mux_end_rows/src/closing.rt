@@ -32,12 +32,7 @@ const PEERS_IS_CLOSED: &str = "comes offerer-terminates | ignored peer1 |";
 const RUNS: &str = "state | Running |";
 
 /// The end ignores frames once it has terminated its own offer, and once that is closed.
-fn own_is_terminated(
-    rt: &impl Abort,
-    alloc: Global,
-    before: &str,
-    ends: &str,
-) -> Result<(), Fail> {
+fn own_is_terminated(rt: &impl Abort, alloc: Global, before: &str, ends: &str) -> Result<(), Fail> {
     a_life(
         rt,
         alloc,

@@ -1,7 +1,8 @@
 //! Rows of text, and the end that lives through them.
 
 use crate::answers::{
-    of_call, of_drawn, of_fault, of_flag, of_known, of_read, of_state, of_step, of_tally, of_view, word,
+    of_call, of_drawn, of_fault, of_flag, of_known, of_read, of_state, of_step, of_tally, of_view,
+    word,
 };
 use crate::crowds::crowds;
 use crate::words::{bytes, first, key, number, parted};

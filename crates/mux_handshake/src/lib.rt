@@ -10,6 +10,3 @@ pub use greeting::hello;
 pub use laws::{handshake_is_steady, handshake_refuses_the_first, hello_is_a_handshake};
 pub use shaken::Shaken;
 pub use shaking::shake;
-
-#[cfg(test)]
-mod tests;

@@ -4,8 +4,6 @@
 mod greeting;
 mod laws;
 mod lines;
-#[cfg(test)]
-mod tests;
 mod view;
 
 pub use laws::view_has_the_frames;
