@@ -1,7 +1,6 @@
 //! Worked scripts with connections, and their reports.
 
-use crate::scripts::{first_other, reported};
-use std::alloc::Global;
+use crate::reports::{are_reported_on_it, is_reported};
 use std::test::Fail;
 
 /// A message that is refused ends its connection, whose channel is terminated. The other channel goes on.
@@ -63,27 +62,6 @@ B running
 B A1 closed written 0 emitted 0 taken 78 handed 78
 B A2 live written 0 emitted 0 taken 1 handed 0
 end
-";
-
-/// A channel is made live.
-const LIVE: &str = "script 1
-version 3
-offer A desk 102400
-deliver B all
-accept B A1 102400
-deliver A all
-";
-
-const LIVE_REPORT: &str = "report 1
-0 start
-1 channel A1
- A> 94000101c40b92a46465736bce00019000
-2 delivered 17
- B offered A1
-3 ok
- B> 940101ffc40691ce00019000
-4 delivered 12
- A accepted A1
 ";
 
 /// A call whose reply is cut by the end of the stream, a byte before its last: it is lost.
@@ -324,45 +302,21 @@ B A1 live written 97 emitted 97 taken 192 handed 192
 end
 ";
 
-/// One text behind another.
-fn joined(alloc: Global, front: &str, rest: &str) -> Result<String, Fail> {
-    let mut text = String::from_str(alloc, front)?;
-    text.push_str(rest)?;
-    Ok(text)
-}
-
-/// The number of the first script on a live channel whose report is another.
-pub fn first_other_on_it(
-    alloc: Global,
-    rows: &[(&'static str, &'static str)],
-) -> Result<Option<usize>, Fail> {
-    for (i, (script, report)) in rows.iter().enumerate() {
-        let report = joined(alloc, LIVE_REPORT, report)?;
-        let script = joined(alloc, LIVE, script)?;
-        if reported(alloc, script.as_bytes())?.as_slice() != report.as_bytes() {
-            return Ok(Some(i));
-        }
-    }
-    Ok(None)
-}
+const ROWS: &[(&str, &str)] = &[
+    (CUT, CUT_REPORT),
+    (ANSWERED, ANSWERED_REPORT),
+    (PACKED, PACKED_REPORT),
+    (WIDE_ID, WIDE_ID_REPORT),
+    (ERRORS, ERRORS_REPORT),
+    (EXTENSIONS, EXTENSIONS_REPORT),
+];
 
 #[test]
 fn scripts_with_connections_have_their_reports(rt: HostRuntime) -> Result<(), Fail> {
-    let rows = [
-        (CUT, CUT_REPORT),
-        (ANSWERED, ANSWERED_REPORT),
-        (PACKED, PACKED_REPORT),
-        (WIDE_ID, WIDE_ID_REPORT),
-        (ERRORS, ERRORS_REPORT),
-        (EXTENSIONS, EXTENSIONS_REPORT),
-    ];
-    assert_eq!(rt; first_other_on_it(rt.alloc(), &rows)?, None);
-    Ok(())
+    are_reported_on_it(&rt, rt.alloc(), ROWS)
 }
 
 #[test]
 fn a_refused_message_ends_its_channel_alone(rt: HostRuntime) -> Result<(), Fail> {
-    let rows = [(REFUSED, REFUSED_REPORT)];
-    assert_eq!(rt; first_other(rt.alloc(), &rows)?, None);
-    Ok(())
+    is_reported(&rt, rt.alloc(), REFUSED, REFUSED_REPORT)
 }

@@ -5,9 +5,19 @@
 #[cfg(test)]
 mod connections;
 #[cfg(test)]
+mod long_scripts;
+#[cfg(test)]
 mod objects;
 #[cfg(test)]
+mod other_makes;
+#[cfg(test)]
 mod progress;
+#[cfg(test)]
+mod releases;
+#[cfg(test)]
+mod reports;
+#[cfg(test)]
+mod runs;
 #[cfg(test)]
 mod scripts;
 #[cfg(test)]

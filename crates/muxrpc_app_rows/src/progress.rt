@@ -1,6 +1,6 @@
 //! Worked scripts with cancellation and progress, and their reports.
 
-use crate::connections::first_other_on_it;
+use crate::reports::are_reported_on_it;
 use std::test::Fail;
 
 /// A cancellation that crosses the reply: the peer has answered, and the outcome stays.
@@ -303,16 +303,16 @@ B A1 live written 218 emitted 218 taken 495 handed 495
 end
 ";
 
+const ROWS: &[(&str, &str)] = &[
+    (LATE_CANCEL, LATE_CANCEL_REPORT),
+    (CANCELLED, CANCELLED_REPORT),
+    (PROGRESS, PROGRESS_REPORT),
+    (KEPT, KEPT_REPORT),
+    (TOKENS, TOKENS_REPORT),
+    (OTHER_MAKE, OTHER_MAKE_REPORT),
+];
+
 #[test]
 fn scripts_with_cancellation_and_progress_have_their_reports(rt: HostRuntime) -> Result<(), Fail> {
-    let rows = [
-        (LATE_CANCEL, LATE_CANCEL_REPORT),
-        (CANCELLED, CANCELLED_REPORT),
-        (PROGRESS, PROGRESS_REPORT),
-        (KEPT, KEPT_REPORT),
-        (TOKENS, TOKENS_REPORT),
-        (OTHER_MAKE, OTHER_MAKE_REPORT),
-    ];
-    assert_eq!(rt; first_other_on_it(rt.alloc(), &rows)?, None);
-    Ok(())
+    are_reported_on_it(&rt, rt.alloc(), ROWS)
 }

@@ -1,172 +1,112 @@
 //! Statuses, with their exit codes and lines.
 
-use muxrpc_app::{Status, run_command, status_line, tell};
+use crate::runs::{Output, Run, runs, runs_on, sink};
+use muxrpc_app::{Status, status_line, tell};
 use std::alloc::Global;
+use std::process::Abort;
 use std::test::Fail;
-use wire_base::{
-    Blob, Calls, Failed, MemSink, MemSource, OutOfMemory, Place, Reason, Source, Text,
-};
+use wire_base::{Failed, MemSink, Place, Reason, Source};
 
-fn calls(alloc: Global, numbers: &[u64]) -> Result<Calls, OutOfMemory> {
-    let mut calls = Calls::new(alloc);
-    for number in numbers {
-        calls.push(*number)?;
+/// The words of a run, its input, its exit code and its line. A `/` ends a line of the input, and of standard error.
+const RUNS: &str = "muxrpc replay < script 1/version 3/ | 0
+ < script 1/version 3/ | 1 muxrpc: usage/
+muxrpc < script 1/version 3/ | 1 muxrpc: usage/
+muxrpc Replay < script 1/version 3/ | 1 muxrpc: usage/
+muxrpc replay - < script 1/version 3/ | 1 muxrpc: usage/
+muxrpc replay < script 2/ | 2 muxrpc: line 1: 90/
+muxrpc replay < script 1/version 3/offer C a 8/ | 2 muxrpc: line 3: 92/
+muxrpc replay < script 1/version 3/release A A1 1/ | 2 muxrpc: line 3: 92/
+muxrpc replay < script 1/version 3/end A/result B A1 1 {/ | 2 muxrpc: line 4: 93/
+muxrpc replay < script 1/version 3/wave A/ | 2 muxrpc: line 3: 91/
+muxrpc replay < script 1/version 2/ | 2 muxrpc: line 3: 90/
+muxrpc replay < script 1/version 3 | 2 muxrpc: line 2: 97/
+muxrpc replay <  | 2 muxrpc: line 1: 90/";
+
+/// The text with the ends of its lines.
+fn adds_lined(text: &mut String, row: &str) -> Result<(), Fail> {
+    for letter in row.chars() {
+        text.push(if letter == '/' { '\n' } else { letter })?;
     }
-    Ok(calls)
+    Ok(())
 }
 
-pub(crate) fn texts(alloc: Global, words: &[&str]) -> Result<Vec<Text>, OutOfMemory> {
-    let mut texts = Vec::new(alloc);
-    for word in words {
-        texts.push(Text::from_str(alloc, word)?)?;
-    }
-    Ok(texts)
+/// A code, and the line behind it.
+fn code_and_line(words: &str) -> (u8, &str) {
+    let (code, line) = words.split_once(' ').unwrap_or((words, ""));
+    (code.parse::<u8>().unwrap_or(u8::MAX), line)
 }
 
-/// A run of the program: its words and input, and the calls of the input, of the output and of standard error that fail.
-#[derive(Clone, Copy)]
-struct Run<'a> {
-    words: &'a [&'a str],
-    input: &'a str,
-    failing: [&'a [u64]; 3],
-}
-
-/// What it ended with: the exit code, whether the output was written, and what standard error was given.
-#[derive(Drop)]
-struct Exit {
-    code: u8,
-    has_output: bool,
-    errors: Vec<u8>,
-}
-
-pub(crate) fn source(alloc: Global, bytes: &[u8], failing: &[u64]) -> Result<MemSource, Fail> {
-    let bytes = Blob::from_bytes(alloc, bytes)?;
-    Ok(MemSource::new(bytes, calls(alloc, failing)?))
-}
-
-pub(crate) fn sink(alloc: Global, failing: &[u64]) -> Result<MemSink, Fail> {
-    Ok(MemSink::new(alloc, calls(alloc, failing)?))
-}
-
-pub(crate) fn code_of<S: Source>(
-    alloc: Global,
-    words: &[Text],
-    input: &mut S,
-    output: &mut MemSink,
-    errors: &mut MemSink,
-) -> u8 {
-    run_command(alloc, words, input, output, errors)
-}
-
-fn exit_of(alloc: Global, run: &Run) -> Result<Exit, Fail> {
-    let words = texts(alloc, run.words)?;
-    let [reads, writes, tells] = run.failing;
-    let mut input = source(alloc, run.input.as_bytes(), reads)?;
-    let mut output = sink(alloc, writes)?;
-    let mut errors = sink(alloc, tells)?;
-    let code = code_of(alloc, &words, &mut input, &mut output, &mut errors);
-    Ok(Exit {
+fn is_run(rt: &impl Abort, alloc: Global, row: &str) -> Result<(), Fail> {
+    let (given, wanted) = row.split_once(" | ").unwrap_or((row, ""));
+    let (words, input) = given.split_once(" < ").unwrap_or((given, ""));
+    let (code, line) = code_and_line(wanted);
+    let run = Run {
+        words,
+        input: input.as_bytes(),
+        reads: "-",
+        writes: "-",
+        tells: "-",
         code,
-        has_output: !output.given().is_empty(),
-        errors: Vec::from_slice(alloc, errors.given())?,
-    })
+        output: Output::IfDone,
+        line,
+    };
+    runs(rt, alloc, &run)
 }
 
-/// Whether a run ends with this code and line, and writes something only where the code is 0.
-fn ends_with(alloc: Global, run: &Run, code: u8, line: &str) -> Result<bool, Fail> {
-    let exit = exit_of(alloc, run)?;
-    Ok(
-        exit.code == code
-            && exit.has_output == (code == 0)
-            && exit.errors.as_slice() == line.as_bytes(),
-    )
+fn is_lined_run(rt: &impl Abort, alloc: Global, row: &str, text: &mut String) -> Result<(), Fail> {
+    adds_lined(text, row)?;
+    is_run(rt, alloc, text.as_str())
 }
 
-pub(crate) const REPLAY: &[&str] = &["muxrpc", "replay"];
+fn is_row(rt: &impl Abort, alloc: Global, row: &str) -> Result<(), Fail> {
+    let mut text = String::new(alloc);
+    is_lined_run(rt, alloc, row, &mut text)
+}
 
-const EMPTY: &str = "script 1\nversion 3\n";
-
-/// The words of a run, its input, its exit code and its line.
-type Row = (&'static [&'static str], &'static str, u8, &'static str);
-
-fn first_other(alloc: Global, rows: &[Row]) -> Result<Option<usize>, Fail> {
-    for (i, (words, input, code, line)) in rows.iter().enumerate() {
-        let run = Run {
-            words,
-            input,
-            failing: [&[], &[], &[]],
-        };
-        if !ends_with(alloc, &run, *code, line)? {
-            return Ok(Some(i));
-        }
+fn are_rows(rt: &impl Abort, alloc: Global, rows: &str) -> Result<(), Fail> {
+    for row in rows.lines() {
+        is_row(rt, alloc, row)?;
     }
-    Ok(None)
+    Ok(())
 }
 
 #[test]
 fn words_and_scripts_are_refused(rt: HostRuntime) -> Result<(), Fail> {
-    let usage = "muxrpc: usage\n";
-    let rows: [Row; 13] = [
-        (REPLAY, EMPTY, 0, ""),
-        (&[], EMPTY, 1, usage),
-        (&["muxrpc"], EMPTY, 1, usage),
-        (&["muxrpc", "Replay"], EMPTY, 1, usage),
-        (&["muxrpc", "replay", "-"], EMPTY, 1, usage),
-        (REPLAY, "script 2\n", 2, "muxrpc: line 1: 90\n"),
-        (
-            REPLAY,
-            "script 1\nversion 3\noffer C a 8\n",
-            2,
-            "muxrpc: line 3: 92\n",
-        ),
-        (
-            REPLAY,
-            "script 1\nversion 3\nrelease A A1 1\n",
-            2,
-            "muxrpc: line 3: 92\n",
-        ),
-        (
-            REPLAY,
-            "script 1\nversion 3\nend A\nresult B A1 1 {\n",
-            2,
-            "muxrpc: line 4: 93\n",
-        ),
-        (
-            REPLAY,
-            "script 1\nversion 3\nwave A\n",
-            2,
-            "muxrpc: line 3: 91\n",
-        ),
-        (REPLAY, "script 1\nversion 2\n", 2, "muxrpc: line 3: 90\n"),
-        (REPLAY, "script 1\nversion 3", 2, "muxrpc: line 2: 97\n"),
-        (REPLAY, "", 2, "muxrpc: line 1: 90\n"),
-    ];
-    assert_eq!(rt; first_other(rt.alloc(), &rows)?, None);
-    Ok(())
+    are_rows(&rt, rt.alloc(), RUNS)
 }
 
-/// Whether a replay of the empty script, of whose calls these fail, ends with this code and line.
-fn fails_with(alloc: Global, failing: [&[u64]; 3], code: u8, line: &str) -> Result<bool, Fail> {
+/// A replay of the empty script ends with this code and line where these calls of the input, of the output and of standard
+/// error fail.
+fn fails(
+    rt: &impl Abort,
+    alloc: Global,
+    (reads, writes, tells): (&str, &str, &str),
+    code: u8,
+    line: &str,
+) -> Result<(), Fail> {
     let run = Run {
-        words: REPLAY,
-        input: EMPTY,
-        failing,
+        words: "muxrpc replay",
+        input: b"script 1\nversion 3\n",
+        reads,
+        writes,
+        tells,
+        code,
+        output: Output::Any,
+        line,
     };
-    let exit = exit_of(alloc, &run)?;
-    Ok(exit.code == code && exit.errors.as_slice() == line.as_bytes())
+    runs(rt, alloc, &run)
 }
 
 /// A failing call of the input, of the output, and of standard error.
 #[test]
 fn failures_of_the_streams_are_told(rt: HostRuntime) -> Result<(), Fail> {
     let alloc = rt.alloc();
-    assert!(rt; fails_with(alloc, [&[1], &[], &[]], 4, "muxrpc: read fault\n")?);
-    assert!(rt; fails_with(alloc, [&[2], &[], &[]], 4, "muxrpc: read fault\n")?);
-    assert!(rt; fails_with(alloc, [&[], &[1], &[]], 5, "muxrpc: write fault\n")?);
+    fails(&rt, alloc, ("1", "-", "-"), 4, "muxrpc: read fault\n")?;
+    fails(&rt, alloc, ("2", "-", "-"), 4, "muxrpc: read fault\n")?;
+    fails(&rt, alloc, ("-", "1", "-"), 5, "muxrpc: write fault\n")?;
     // The second call of the output is the flush.
-    assert!(rt; fails_with(alloc, [&[], &[2], &[]], 5, "muxrpc: write fault\n")?);
-    assert!(rt; fails_with(alloc, [&[1], &[], &[2]], 4, "muxrpc: ")?);
-    Ok(())
+    fails(&rt, alloc, ("-", "2", "-"), 5, "muxrpc: write fault\n")?;
+    fails(&rt, alloc, ("1", "-", "2"), 4, "muxrpc: ")
 }
 
 /// A source whose bytes have no end.
@@ -187,61 +127,134 @@ impl Source for Endless {
     }
 }
 
-/// The exit code of a replay of an input that has no end.
-fn endless_code(alloc: Global) -> Result<u8, Fail> {
-    let words = texts(alloc, REPLAY)?;
-    let mut output = sink(alloc, &[])?;
-    let mut errors = sink(alloc, &[])?;
-    Ok(code_of(alloc, &words, &mut Endless, &mut output, &mut errors))
-}
-
 #[test]
 fn an_input_that_is_too_long_is_refused(rt: HostRuntime) -> Result<(), Fail> {
-    assert_eq!(rt; endless_code(rt.alloc())?, 8);
+    let run = Run {
+        words: "muxrpc replay",
+        input: b"",
+        reads: "-",
+        writes: "-",
+        tells: "-",
+        code: 8,
+        output: Output::Text(""),
+        line: "muxrpc: too long\n",
+    };
+    runs_on(&rt, rt.alloc(), &run, &mut Endless)
+}
+
+/// The code and the line of each status.
+const STATUSES: &str = "Done | 0
+Usage | 1 muxrpc: usage
+ScriptRefused 3 92 | 2 muxrpc: line 3: 92
+StreamRefused 20 Unused | 3 muxrpc: refused at 20: 1 Unused
+ReadFault | 4 muxrpc: read fault
+WriteFault | 5 muxrpc: write fault
+LinkFault | 6 muxrpc: link fault
+OutOfMemory | 7 muxrpc: out of memory
+TooLong | 8 muxrpc: too long
+LinkEnded | 9 muxrpc: link ended";
+
+fn status_of(words: &str) -> Option<Status> {
+    Some(match words {
+        "Done" => Status::Done,
+        "Usage" => Status::Usage,
+        "ScriptRefused 3 92" => Status::ScriptRefused(3, 92),
+        "StreamRefused 20 Unused" => Status::StreamRefused(Place(20), Reason::Unused),
+        "ReadFault" => Status::ReadFault,
+        "WriteFault" => Status::WriteFault,
+        "LinkFault" => Status::LinkFault,
+        "OutOfMemory" => Status::OutOfMemory,
+        "TooLong" => Status::TooLong,
+        "LinkEnded" => Status::LinkEnded,
+        _ => return None,
+    })
+}
+
+/// Whether bytes are this line with its end, or nothing where there is none.
+fn is_line(given: &[u8], line: &str) -> bool {
+    match given.strip_suffix(b"\n") {
+        Some(given) => given == line.as_bytes(),
+        None => given.is_empty() && line.is_empty(),
+    }
+}
+
+fn is_told(rt: &impl Abort, row: &str, given: &[u8], line: &str) {
+    assert!(rt; is_line(given, line), "line at {row}");
+}
+
+fn is_code(rt: &impl Abort, row: &str, got: u8, code: u8) {
+    assert_eq!(rt; got, code, "code at {row}");
+}
+
+fn adds_line(status: &Status, text: &mut Vec<u8>) -> Result<(), Fail> {
+    Ok(status_line(status, text)?)
+}
+
+/// The line of a status is appended behind what stood in a text.
+fn is_appended(
+    rt: &impl Abort,
+    row: &str,
+    status: &Status,
+    line: &str,
+    text: &mut Vec<u8>,
+) -> Result<(), Fail> {
+    text.extend_from_slice(b"> ")?;
+    adds_line(status, text)?;
+    let front = b"> ".as_slice();
+    is_told(
+        rt,
+        row,
+        text.as_slice().strip_prefix(front).unwrap_or(b"> "),
+        line,
+    );
     Ok(())
 }
 
-/// Whether the line of a status is appended behind what stood in a text.
-fn is_line(alloc: Global, status: &Status, line: &str) -> Result<bool, Fail> {
-    let mut text = Vec::from_slice(alloc, b"> ")?;
-    status_line(status, &mut text)?;
-    Ok(text.as_slice().strip_prefix(b"> ".as_slice()) == Some(line.as_bytes()))
+fn has_line(
+    rt: &impl Abort,
+    alloc: Global,
+    row: &str,
+    status: &Status,
+    line: &str,
+) -> Result<(), Fail> {
+    let mut text = Vec::new(alloc);
+    is_appended(rt, row, status, line, &mut text)
 }
 
-/// Whether a status is told to standard error by this line, and answers this code.
-fn is_told(alloc: Global, status: &Status, code: u8, line: &str) -> Result<bool, Fail> {
-    let mut errors = sink(alloc, &[])?;
-    let told = tell(status, &mut errors);
-    Ok(told == code && errors.given() == line.as_bytes())
+fn told(status: &Status, errors: &mut MemSink) -> u8 {
+    tell(status, errors)
 }
 
-fn first_untold(alloc: Global, rows: &[(Status, u8, &'static str)]) -> Result<Option<usize>, Fail> {
-    for (i, (status, code, line)) in rows.iter().enumerate() {
-        if !(is_line(alloc, status, line)? && is_told(alloc, status, *code, line)?) {
-            return Ok(Some(i));
-        }
+/// The status is told to standard error by its line, and answers its code.
+fn tells(
+    rt: &impl Abort,
+    alloc: Global,
+    row: &str,
+    status: &Status,
+    (code, line): (u8, &str),
+) -> Result<(), Fail> {
+    let mut errors = sink(alloc, "-")?;
+    is_code(rt, row, told(status, &mut errors), code);
+    is_told(rt, row, errors.given(), line);
+    Ok(())
+}
+
+fn is_status(rt: &impl Abort, alloc: Global, row: &str) -> Result<(), Fail> {
+    let (words, wanted) = row.split_once(" | ").unwrap_or((row, ""));
+    let (code, line) = code_and_line(wanted);
+    let status = status_of(words).expect(rt, "a status");
+    has_line(rt, alloc, row, &status, line)?;
+    tells(rt, alloc, row, &status, (code, line))
+}
+
+fn are_statuses(rt: &impl Abort, alloc: Global, rows: &str) -> Result<(), Fail> {
+    for row in rows.lines() {
+        is_status(rt, alloc, row)?;
     }
-    Ok(None)
+    Ok(())
 }
 
 #[test]
 fn statuses_have_their_codes_and_lines(rt: HostRuntime) -> Result<(), Fail> {
-    let rows = [
-        (Status::Done, 0, ""),
-        (Status::Usage, 1, "muxrpc: usage\n"),
-        (Status::ScriptRefused(3, 92), 2, "muxrpc: line 3: 92\n"),
-        (
-            Status::StreamRefused(Place(20), Reason::Unused),
-            3,
-            "muxrpc: refused at 20: 1 Unused\n",
-        ),
-        (Status::ReadFault, 4, "muxrpc: read fault\n"),
-        (Status::WriteFault, 5, "muxrpc: write fault\n"),
-        (Status::LinkFault, 6, "muxrpc: link fault\n"),
-        (Status::OutOfMemory, 7, "muxrpc: out of memory\n"),
-        (Status::TooLong, 8, "muxrpc: too long\n"),
-        (Status::LinkEnded, 9, "muxrpc: link ended\n"),
-    ];
-    assert_eq!(rt; first_untold(rt.alloc(), &rows)?, None);
-    Ok(())
+    are_statuses(&rt, rt.alloc(), STATUSES)
 }

@@ -1,15 +1,12 @@
 //! Worked captures with their views, exit codes and lines.
 
-use crate::statuses::{code_of, sink, source, texts};
+use crate::runs::{Output, Run, runs};
 use std::alloc::Global;
+use std::process::Abort;
 use std::test::Fail;
 
-/// An offer of "a" with a window of 8, the content "hell", and the first byte of one frame more.
-const CAPTURE: &[u8] = &[
-    0x94, 0x00, 0x01, 0x01, 0xc4, 0x04, 0x92, 0xa1, 0x61, 0x08, // 0 to 9
-    0x94, 0x02, 0x01, 0x01, 0xc4, 0x04, 0x68, 0x65, 0x6c, 0x6c, // 10 to 19
-    0x94, // 20
-];
+/// An offer of "a" with a window of 8 (0 to 9), the content "hell" (10 to 19), and the first byte of one frame more (20).
+const CAPTURE: &[u8] = b"\x94\x00\x01\x01\xc4\x04\x92\xa1a\x08\x94\x02\x01\x01\xc4\x04hell\x94";
 
 const VIEW: &str = "view 1
 0 Offer 1 sender \"a\" 8
@@ -19,11 +16,7 @@ end
 ";
 
 /// The same with a byte at the end that begins no token.
-const BROKEN: &[u8] = &[
-    0x94, 0x00, 0x01, 0x01, 0xc4, 0x04, 0x92, 0xa1, 0x61, 0x08, // 0 to 9
-    0x94, 0x02, 0x01, 0x01, 0xc4, 0x04, 0x68, 0x65, 0x6c, 0x6c, // 10 to 19
-    0xc1, // 20
-];
+const BROKEN: &[u8] = b"\x94\x00\x01\x01\xc4\x04\x92\xa1a\x08\x94\x02\x01\x01\xc4\x04hell\xc1";
 
 const BROKEN_VIEW: &str = "view 1
 0 Offer 1 sender \"a\" 8
@@ -32,118 +25,137 @@ refused 20 1 Unused
 end
 ";
 
-/// A run: its words, its input, its exit code, its output, and its line.
-type Row = (
-    &'static [&'static str],
-    &'static [u8],
-    u8,
-    &'static str,
-    &'static str,
-);
-
-fn is_so(alloc: Global, row: &Row) -> Result<bool, Fail> {
-    let (words, input, code, output, line) = row;
-    let words = texts(alloc, words)?;
-    let mut input = source(alloc, input, &[])?;
-    let mut written = sink(alloc, &[])?;
-    let mut errors = sink(alloc, &[])?;
-    let ended = code_of(alloc, &words, &mut input, &mut written, &mut errors);
-    Ok(ended == *code && written.given() == output.as_bytes() && errors.given() == line.as_bytes())
-}
-
-fn first_other(alloc: Global, rows: &[Row]) -> Result<Option<usize>, Fail> {
-    for (i, row) in rows.iter().enumerate() {
-        if !is_so(alloc, row)? {
-            return Ok(Some(i));
-        }
-    }
-    Ok(None)
+fn is_viewed(
+    rt: &impl Abort,
+    alloc: Global,
+    words: &str,
+    input: &[u8],
+    output: &str,
+) -> Result<(), Fail> {
+    let run = Run {
+        words,
+        input,
+        reads: "-",
+        writes: "-",
+        tells: "-",
+        code: 0,
+        output: Output::Text(output),
+        line: "",
+    };
+    runs(rt, alloc, &run)
 }
 
 #[test]
 fn captures_have_their_views(rt: HostRuntime) -> Result<(), Fail> {
-    let broken = "muxrpc: refused at 20: 1 Unused\n";
-    let rows: [Row; 6] = [
-        (&["muxrpc", "view", "--version", "3"], CAPTURE, 0, VIEW, ""),
-        (&["muxrpc", "view", "--version=3"], CAPTURE, 0, VIEW, ""),
-        (
-            &["muxrpc", "view", "--version=3"],
-            BROKEN,
-            3,
-            BROKEN_VIEW,
-            broken,
-        ),
-        (
-            &["muxrpc", "view", "--version=1"],
-            &[0x2f, 0xdf],
-            0,
-            "view 1\nrest 0 2\nend\n",
-            "",
-        ),
-        (
-            &["muxrpc", "view", "--version", "2"],
-            &[0x92, 0xc1],
-            3,
-            "view 1\nrefused 1 1 Unused\nend\n",
-            "muxrpc: refused at 1: 1 Unused\n",
-        ),
-        (
-            &["muxrpc", "view", "--version", "1"],
-            &[],
-            0,
-            "view 1\nend\n",
-            "",
-        ),
-    ];
-    assert_eq!(rt; first_other(rt.alloc(), &rows)?, None);
-    Ok(())
+    let alloc = rt.alloc();
+    is_viewed(&rt, alloc, "muxrpc view --version 3", CAPTURE, VIEW)?;
+    is_viewed(&rt, alloc, "muxrpc view --version=3", CAPTURE, VIEW)?;
+    let rest = "view 1\nrest 0 2\nend\n";
+    is_viewed(&rt, alloc, "muxrpc view --version=1", b"\x2f\xdf", rest)?;
+    is_viewed(&rt, alloc, "muxrpc view --version 1", b"", "view 1\nend\n")
+}
+
+fn is_refused(
+    rt: &impl Abort,
+    alloc: Global,
+    (words, input): (&str, &[u8]),
+    (output, line): (&str, &str),
+) -> Result<(), Fail> {
+    let run = Run {
+        words,
+        input,
+        reads: "-",
+        writes: "-",
+        tells: "-",
+        code: 3,
+        output: Output::Text(output),
+        line,
+    };
+    runs(rt, alloc, &run)
 }
 
 #[test]
-fn a_version_is_given_once(rt: HostRuntime) -> Result<(), Fail> {
-    let usage = "muxrpc: usage\n";
-    let rows: [Row; 9] = [
-        (&["muxrpc", "view"], CAPTURE, 1, "", usage),
-        (&["muxrpc", "view", "3"], CAPTURE, 1, "", usage),
-        (&["muxrpc", "view", "--version"], CAPTURE, 1, "", usage),
-        (&["muxrpc", "view", "--version=4"], CAPTURE, 1, "", usage),
-        (&["muxrpc", "view", "--version=03"], CAPTURE, 1, "", usage),
-        (&["muxrpc", "view", "--version", "0"], CAPTURE, 1, "", usage),
+fn broken_captures_are_viewed_until_they_break(rt: HostRuntime) -> Result<(), Fail> {
+    let alloc = rt.alloc();
+    is_refused(
+        &rt,
+        alloc,
+        ("muxrpc view --version=3", BROKEN),
+        (BROKEN_VIEW, "muxrpc: refused at 20: 1 Unused\n"),
+    )?;
+    is_refused(
+        &rt,
+        alloc,
+        ("muxrpc view --version 2", b"\x92\xc1"),
         (
-            &["muxrpc", "view", "--version=3", "--version=3"],
-            CAPTURE,
-            1,
-            "",
-            usage,
+            "view 1\nrefused 1 1 Unused\nend\n",
+            "muxrpc: refused at 1: 1 Unused\n",
         ),
-        (
-            &["muxrpc", "view", "--version", "3", "3"],
-            CAPTURE,
-            1,
-            "",
-            usage,
-        ),
-        (&["muxrpc", "replay", "--version=3"], CAPTURE, 1, "", usage),
-    ];
-    assert_eq!(rt; first_other(rt.alloc(), &rows)?, None);
+    )
+}
+
+fn is_usage(rt: &impl Abort, alloc: Global, words: &str) -> Result<(), Fail> {
+    let run = Run {
+        words,
+        input: CAPTURE,
+        reads: "-",
+        writes: "-",
+        tells: "-",
+        code: 1,
+        output: Output::Text(""),
+        line: "muxrpc: usage\n",
+    };
+    runs(rt, alloc, &run)
+}
+
+fn are_usages(rt: &impl Abort, alloc: Global, rows: &str) -> Result<(), Fail> {
+    for words in rows.lines() {
+        is_usage(rt, alloc, words)?;
+    }
     Ok(())
 }
 
-/// The exit code of a view of the broken capture, of whose input and output these calls fail.
-fn failing_code(alloc: Global, reads: &[u64], writes: &[u64]) -> Result<u8, Fail> {
-    let words = texts(alloc, &["muxrpc", "view", "--version=3"])?;
-    let mut input = source(alloc, BROKEN, reads)?;
-    let mut output = sink(alloc, writes)?;
-    let mut errors = sink(alloc, &[])?;
-    Ok(code_of(alloc, &words, &mut input, &mut output, &mut errors))
+const USAGES: &str = "muxrpc view
+muxrpc view 3
+muxrpc view --version
+muxrpc view --version=4
+muxrpc view --version=03
+muxrpc view --version 0
+muxrpc view --version=3 --version=3
+muxrpc view --version 3 3
+muxrpc replay --version=3";
+
+#[test]
+fn a_version_is_given_once(rt: HostRuntime) -> Result<(), Fail> {
+    are_usages(&rt, rt.alloc(), USAGES)
+}
+
+/// A view of the broken capture ends with this code and line where these calls of its input and output fail.
+fn fails(
+    rt: &impl Abort,
+    alloc: Global,
+    (reads, writes): (&str, &str),
+    code: u8,
+    line: &str,
+) -> Result<(), Fail> {
+    let run = Run {
+        words: "muxrpc view --version=3",
+        input: BROKEN,
+        reads,
+        writes,
+        tells: "-",
+        code,
+        output: Output::Any,
+        line,
+    };
+    runs(rt, alloc, &run)
 }
 
 #[test]
 fn failures_come_before_a_refusal(rt: HostRuntime) -> Result<(), Fail> {
     let alloc = rt.alloc();
-    assert_eq!(rt; failing_code(alloc, &[1], &[])?, 4);
-    assert_eq!(rt; failing_code(alloc, &[], &[1])?, 5);
+    fails(&rt, alloc, ("1", "-"), 4, "muxrpc: read fault\n")?;
+    fails(&rt, alloc, ("-", "1"), 5, "muxrpc: write fault\n")?;
     // The second call of the output is the flush.
-    assert_eq!(rt; failing_code(alloc, &[], &[2])?, 5);
-    Ok(())
+    fails(&rt, alloc, ("-", "2"), 5, "muxrpc: write fault\n")
 }
