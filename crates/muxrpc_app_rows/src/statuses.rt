@@ -77,12 +77,12 @@ fn words_and_scripts_are_refused(rt: HostRuntime) -> Result<(), Fail> {
 
 /// A replay of the empty script ends with this code and line where these calls of the input, of the output and of standard
 /// error fail.
-fn fails(
+fn fails<'a>(
     rt: &impl Abort,
     alloc: Global,
-    (reads, writes, tells): (&str, &str, &str),
+    (reads, writes, tells): (&'a str, &'a str, &'a str),
     code: u8,
-    line: &str,
+    line: &'a str,
 ) -> Result<(), Fail> {
     let run = Run {
         words: "muxrpc replay",

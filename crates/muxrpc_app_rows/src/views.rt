@@ -25,12 +25,12 @@ refused 20 1 Unused
 end
 ";
 
-fn is_viewed(
+fn is_viewed<'a>(
     rt: &impl Abort,
     alloc: Global,
-    words: &str,
-    input: &[u8],
-    output: &str,
+    words: &'a str,
+    input: &'a [u8],
+    output: &'a str,
 ) -> Result<(), Fail> {
     let run = Run {
         words,
@@ -55,11 +55,11 @@ fn captures_have_their_views(rt: HostRuntime) -> Result<(), Fail> {
     is_viewed(&rt, alloc, "muxrpc view --version 1", b"", "view 1\nend\n")
 }
 
-fn is_refused(
+fn is_refused<'a>(
     rt: &impl Abort,
     alloc: Global,
-    (words, input): (&str, &[u8]),
-    (output, line): (&str, &str),
+    (words, input): (&'a str, &'a [u8]),
+    (output, line): (&'a str, &'a str),
 ) -> Result<(), Fail> {
     let run = Run {
         words,
@@ -131,12 +131,12 @@ fn a_version_is_given_once(rt: HostRuntime) -> Result<(), Fail> {
 }
 
 /// A view of the broken capture ends with this code and line where these calls of its input and output fail.
-fn fails(
+fn fails<'a>(
     rt: &impl Abort,
     alloc: Global,
-    (reads, writes): (&str, &str),
+    (reads, writes): (&'a str, &'a str),
     code: u8,
-    line: &str,
+    line: &'a str,
 ) -> Result<(), Fail> {
     let run = Run {
         words: "muxrpc view --version=3",

@@ -2,4 +2,10 @@
 #![tactic(auto)]
 
 #[cfg(test)]
-mod rows;
+mod limits;
+#[cfg(test)]
+mod refusing;
+#[cfg(test)]
+mod scripts;
+#[cfg(test)]
+mod steps;
