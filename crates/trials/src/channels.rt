@@ -4,7 +4,7 @@ use mux_items::ChannelKey;
 use mux_run::Side;
 
 /// A channel, the side that offered it, and the windows of its offer and of its acceptance, which is 0 until then.
-#[derive(Clone, Copy, Debug, PartialEq, Eq)]
+#[derive(Clone, Copy)]
 pub struct Channel {
     pub offerer: Side,
     pub id: u64,

@@ -6,7 +6,7 @@ use std::alloc::Global;
 use wire_base::{OutOfMemory, Version};
 
 /// What a frame brings to its channel, in bytes.
-#[derive(Clone, Copy, Debug, PartialEq, Eq)]
+#[derive(Clone, Copy)]
 pub enum Brings {
     Content(u64),
     Acknowledgement(u64),
@@ -15,7 +15,7 @@ pub enum Brings {
 
 /// A frame as its bytes show it, and the place behind it. Only in version 3 they show whether its sender offered the
 /// channel; in the others an id is that of one channel alone.
-#[derive(Clone, Copy, Debug, PartialEq, Eq)]
+#[derive(Clone, Copy)]
 pub struct SeenFrame {
     pub id: u64,
     pub by_offerer: Option<bool>,
@@ -166,25 +166,25 @@ fn hello_size(version: Version) -> usize {
     }
 }
 
-/// All bytes that a side emitted, how many of them were delivered, and where the first frame begins that wasn't
-/// delivered whole.
+/// All bytes that a side emitted, how many of them were delivered, where the first frame begins that wasn't delivered
+/// whole, and the frames from there on, as they were last read.
 #[derive(Drop)]
 pub struct Emitted {
-    alloc: Global,
     version: Version,
     bytes: Vec<u8>,
     delivered: usize,
     ahead: usize,
+    frames: Vec<SeenFrame>,
 }
 
 impl Emitted {
     pub fn new(alloc: Global, version: Version) -> Emitted {
         Emitted {
-            alloc,
             version,
             bytes: Vec::new(alloc),
             delivered: 0,
             ahead: hello_size(version),
+            frames: Vec::new(alloc),
         }
     }
 
@@ -202,24 +202,43 @@ impl Emitted {
         self.ahead < self.delivered
     }
 
-    /// The frames that weren't delivered whole, or None where the bytes are no frames.
-    pub fn frames(&mut self) -> Result<Option<Vec<SeenFrame>>, OutOfMemory> {
-        let mut frames = Vec::new(self.alloc);
+    /// Keeps a frame unless it was delivered whole.
+    fn keep(&mut self, frame: SeenFrame) -> Result<(), OutOfMemory> {
+        if frame.end <= self.delivered {
+            self.ahead = frame.end;
+        } else {
+            self.frames.push(frame)?;
+        }
+        Ok(())
+    }
+
+    /// Reads the frame at a place, and answers that behind it, or None where the bytes there are no frame.
+    fn read_frame(&mut self, at: usize) -> Result<Option<usize>, OutOfMemory> {
+        let Some(frame) = frame_at(self.version, &self.bytes, at) else {
+            return Ok(None);
+        };
+        self.keep(frame)?;
+        Ok(Some(frame.end))
+    }
+
+    /// Reads the frames that weren't delivered whole, and answers whether the bytes are frames.
+    pub fn read_frames(&mut self) -> Result<bool, OutOfMemory> {
+        self.frames.clear();
         let mut at = self.ahead;
         for _ in at..self.bytes.len() {
             if at >= self.bytes.len() {
                 break;
             }
-            let Some(frame) = frame_at(self.version, &self.bytes, at) else {
-                return Ok(None);
-            };
-            at = frame.end;
-            if at <= self.delivered {
-                self.ahead = at;
-            } else {
-                frames.push(frame)?;
+            match self.read_frame(at)? {
+                Some(end) => at = end,
+                None => return Ok(false),
             }
         }
-        Ok(Some(frames))
+        Ok(true)
+    }
+
+    /// The frames as they were last read.
+    pub fn frames(&self) -> &[SeenFrame] {
+        self.frames.as_slice()
     }
 }

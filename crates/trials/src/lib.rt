@@ -9,6 +9,8 @@ mod draws;
 #[cfg(test)]
 mod flight;
 #[cfg(test)]
+mod losses;
+#[cfg(test)]
 mod moves;
 #[cfg(test)]
 mod sums;

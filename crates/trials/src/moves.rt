@@ -25,7 +25,7 @@ const BYTES: &[u8] = b"abcdefghijklmnopqrstuvwxyz0123456789-+.:";
 pub const ALL: u64 = 1_000_000;
 
 /// What a side does. A write is of so many bytes.
-#[derive(Clone, Copy, Debug)]
+#[derive(Clone, Copy)]
 pub enum Move {
     Offer(u32),
     Accept(ChannelKey, u32),
@@ -40,17 +40,28 @@ fn content(alloc: Global, size: u32) -> Result<Blob, OutOfMemory> {
     Blob::from_bytes(alloc, BYTES.get(..size as usize).unwrap_or(BYTES))
 }
 
+fn offer(alloc: Global, window: u32) -> Result<mux_items::Call, OutOfMemory> {
+    Ok(mux_items::Call::Offer(Text::from_str(alloc, "trial")?, window))
+}
+
+fn write(alloc: Global, key: ChannelKey, size: u32) -> Result<mux_items::Call, OutOfMemory> {
+    Ok(mux_items::Call::Write(key, content(alloc, size)?))
+}
+
+fn step_with(side: Side, call: mux_items::Call) -> Step {
+    Step::Call(side, Call::Mux(call))
+}
+
 pub fn step_of(alloc: Global, side: Side, makes: Move) -> Result<Step, OutOfMemory> {
-    let call = match makes {
-        Move::Offer(window) => mux_items::Call::Offer(Text::from_str(alloc, "trial")?, window),
-        Move::Accept(key, window) => mux_items::Call::Accept(key, window),
-        Move::Write(key, size) => mux_items::Call::Write(key, content(alloc, size)?),
-        Move::Read(key, max) => mux_items::Call::Read(key, max),
-        Move::Complete(key) => mux_items::Call::Complete(key),
-        Move::Terminate(key) => mux_items::Call::Terminate(key),
-        Move::Deliver(count) => return Ok(Step::Deliver(side, count)),
-    };
-    Ok(Step::Call(side, Call::Mux(call)))
+    Ok(match makes {
+        Move::Offer(window) => step_with(side, offer(alloc, window)?),
+        Move::Accept(key, window) => step_with(side, mux_items::Call::Accept(key, window)),
+        Move::Write(key, size) => step_with(side, write(alloc, key, size)?),
+        Move::Read(key, max) => step_with(side, mux_items::Call::Read(key, max)),
+        Move::Complete(key) => step_with(side, mux_items::Call::Complete(key)),
+        Move::Terminate(key) => step_with(side, mux_items::Call::Terminate(key)),
+        Move::Deliver(count) => Step::Deliver(side, count),
+    })
 }
 
 /// One of the newest channels, or none where there are few.

@@ -15,13 +15,21 @@ pub struct Seen<'a> {
     pub ahead: &'a [SeenFrame],
 }
 
+fn live(view: Option<ChannelView>) -> Option<ChannelView> {
+    match view {
+        Some(view) if view.phase == Phase::Live => Some(view),
+        _ => None,
+    }
+}
+
 impl Seen<'_> {
     fn is_running(&self) -> bool {
         self.end.state() == EndState::Running
     }
 
-    fn view(&self, channel: &Channel) -> Option<ChannelView> {
-        self.end.view(channel.key_at(self.side))
+    /// The channel where it is live.
+    fn live_view(&self, channel: &Channel) -> Option<ChannelView> {
+        live(self.end.view(channel.key_at(self.side)))
     }
 
     fn tally(&self, channel: &Channel) -> Option<Tally> {
@@ -57,7 +65,7 @@ impl Seen<'_> {
 
 /// A channel from the end that writes to the end that reads, in numbers of bytes: `window` is the reader's,
 /// `granted` what the writer may emit, `content` and `acknowledged` are in flight.
-#[derive(Clone, Copy, Debug, PartialEq, Eq)]
+#[derive(Clone, Copy, Debug)]
 pub struct Direction {
     pub window: u64,
     pub granted: Option<u64>,
@@ -94,16 +102,10 @@ impl Direction {
     }
 }
 
-/// A direction of a channel that is live at both ends, which run.
-pub fn direction_of(writer: Seen<'_>, reader: Seen<'_>, channel: &Channel) -> Option<Direction> {
-    if !writer.is_running() || !reader.is_running() {
-        return None;
-    }
-    let from = writer.view(channel)?;
-    let to = reader.view(channel)?;
-    if from.phase != Phase::Live || to.phase != Phase::Live {
-        return None;
-    }
+/// What both ends tell of a channel that is live at both.
+fn direction_between(writer: Seen<'_>, reader: Seen<'_>, channel: &Channel) -> Option<Direction> {
+    let from = writer.live_view(channel)?;
+    let to = reader.live_view(channel)?;
     let sent = writer.tally(channel)?;
     let came = reader.tally(channel)?;
     Some(Direction {
@@ -117,4 +119,13 @@ pub fn direction_of(writer: Seen<'_>, reader: Seen<'_>, channel: &Channel) -> Op
         handed: came.handed,
         acknowledged: reader.acknowledged(channel),
     })
+}
+
+/// A direction of a channel that is live at both ends, which run.
+pub fn direction_of(writer: Seen<'_>, reader: Seen<'_>, channel: &Channel) -> Option<Direction> {
+    if writer.is_running() && reader.is_running() {
+        direction_between(writer, reader, channel)
+    } else {
+        None
+    }
 }
