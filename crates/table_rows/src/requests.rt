@@ -1,192 +1,284 @@
 //! Worked requests.
 
+use crate::answers::{of_check, of_fault, of_flag, of_number, of_refusal};
+use crate::rows::{Table, a_life};
+use crate::values::first;
 use call_table::{CallTable, Expect, Heard, Look, Outcome, Settled};
+use row_words::{count, id_of, number, of_outcome, of_value, whole, word};
+use std::alloc::Global;
 use std::test::Fail;
-use wire_base::{Datum, Id, Node, OutOfMemory, Refusal, Text, Whole};
+use wire_base::{CallFault, Datum, Id, OutOfMemory, Refusal};
 
-fn whole(n: i64) -> Datum {
-    Datum {
-        node: Node::Whole(Whole::from_i64(n)),
+fn of_drawn(alloc: Global, answer: Result<u64, CallFault>) -> Result<String, Fail> {
+    match answer {
+        Ok(n) => of_number(alloc, n),
+        Err(fault) => of_fault(alloc, fault),
     }
 }
 
-fn number(n: i64) -> Outcome {
-    Outcome::Replied(whole(n))
+fn of_settled(alloc: Global, settled: Settled) -> Result<String, Fail> {
+    Ok(format!(in alloc; "{settled:?}")?)
 }
 
-/// The number that a value is, 5 or 7, or else a word.
-fn digit(value: &Datum) -> &'static str {
-    match &value.node {
-        Node::Whole(n) if n.get() == 5 => "5",
-        Node::Whole(n) if n.get() == 7 => "7",
-        _ => "another value",
+fn of_look(alloc: Global, look: Look<'_>) -> Result<String, Fail> {
+    match look {
+        Look::Known(outcome) => of_outcome(alloc, outcome),
+        Look::NotYet => word(alloc, "not yet"),
+        Look::NoRequest => word(alloc, "no request"),
     }
 }
 
-/// What is told of a request: the number that it was answered, or else a word.
-fn told(table: &CallTable, n: u64) -> &'static str {
-    match table.outcome(n) {
-        Look::Known(Outcome::Replied(value)) => digit(value),
-        Look::Known(Outcome::Failed(_, _, _)) => "failed",
-        Look::Known(Outcome::Lost) => "lost",
-        Look::Known(Outcome::Starved) => "starved",
-        Look::NotYet => "not yet",
-        Look::NoRequest => "no request",
+fn of_report(alloc: Global, answer: Result<Option<Datum>, Refusal>) -> Result<String, Fail> {
+    match answer {
+        Ok(Some(value)) => of_value(alloc, &value),
+        Ok(None) => word(alloc, "none"),
+        Err(refusal) => of_refusal(alloc, refusal),
     }
 }
 
-fn begins(table: &mut CallTable, number: u64) -> bool {
-    table.begin(Expect::Plain, false) == Ok(number)
-}
-
-fn settles(table: &mut CallTable, id: &Id, n: i64, want: Settled) -> bool {
-    let foreseen = table.foresee(id);
-    table.settle(id, number(n)) == want && foreseen == want
-}
-
-fn reports(table: &mut CallTable, token: i64, n: i64) -> Result<bool, OutOfMemory> {
-    table.report(&Id::Number(token), whole(n))
-}
-
-/// What is taken of the reports on a request: the number that was reported, or else a word.
-fn taken(table: &mut CallTable, n: u64) -> &'static str {
-    match table.take_report(n) {
-        Ok(Some(value)) => digit(&value),
-        Ok(None) => "none",
-        Err(Refusal::NoRequest) => "no request",
-        Err(Refusal::NoToken) => "no token",
-        Err(_) => "another refusal",
+fn of_heard(alloc: Global, heard: &Heard) -> Result<String, Fail> {
+    match heard {
+        Heard::New => word(alloc, "new"),
+        Heard::Duplicate(_) => word(alloc, "duplicate"),
+        Heard::OutOfMemory => word(alloc, "OutOfMemory"),
     }
 }
 
-fn hears(table: &mut CallTable, id: Id) -> &'static str {
-    match table.hear(id) {
-        Heard::New => "new",
-        Heard::Duplicate(_) => "duplicate",
-        Heard::OutOfMemory => "out of memory",
+fn of_kept(alloc: Global, answer: Result<bool, OutOfMemory>) -> Result<String, Fail> {
+    match answer {
+        Ok(is_kept) => of_flag(alloc, is_kept),
+        Err(_) => word(alloc, "OutOfMemory"),
     }
 }
 
-fn answers(table: &mut CallTable, id: &Id) -> bool {
-    table.waits(id) && table.answer(id).is_ok()
+/// A request that may have a progress argument.
+fn begins(alloc: Global, table: &mut CallTable, words: &str) -> Result<String, Fail> {
+    of_drawn(alloc, table.begin(Expect::Plain, words == "progress"))
 }
 
-fn forgets(table: &mut CallTable, n: u64) -> bool {
-    table.forget(n).is_ok()
+fn foresees(alloc: Global, table: &CallTable, words: &str) -> Result<String, Fail> {
+    let id = id_of(alloc, words)?;
+    of_settled(alloc, table.foresee(&id))
+}
+
+fn settle(alloc: Global, table: &mut CallTable, id: &Id, n: i64) -> Result<String, Fail> {
+    of_settled(alloc, table.settle(id, Outcome::Replied(whole(n))))
+}
+
+/// The words are an id, and the number that is its result.
+fn settles(alloc: Global, table: &mut CallTable, words: &str) -> Result<String, Fail> {
+    let (id, n) = first(words);
+    let id = id_of(alloc, id)?;
+    settle(alloc, table, &id, number(n))
+}
+
+fn outcome(alloc: Global, table: &CallTable, n: u64) -> Result<String, Fail> {
+    of_look(alloc, table.outcome(n))
+}
+
+fn cancels(alloc: Global, table: &mut CallTable, n: u64) -> Result<String, Fail> {
+    of_check(alloc, table.cancel(n))
+}
+
+fn forgets(alloc: Global, table: &mut CallTable, n: u64) -> Result<String, Fail> {
+    of_check(alloc, table.forget(n))
+}
+
+fn report(alloc: Global, table: &mut CallTable, token: &Id, n: i64) -> Result<String, Fail> {
+    of_kept(alloc, table.report(token, whole(n)))
+}
+
+/// The words are a token, and the number that is reported.
+fn reports(alloc: Global, table: &mut CallTable, words: &str) -> Result<String, Fail> {
+    let (token, n) = first(words);
+    let token = id_of(alloc, token)?;
+    report(alloc, table, &token, number(n))
+}
+
+fn takes(alloc: Global, table: &mut CallTable, n: u64) -> Result<String, Fail> {
+    of_report(alloc, table.take_report(n))
+}
+
+fn hears(alloc: Global, table: &mut CallTable, words: &str) -> Result<String, Fail> {
+    let id = id_of(alloc, words)?;
+    of_heard(alloc, &table.hear(id))
+}
+
+fn waits(alloc: Global, table: &CallTable, words: &str) -> Result<String, Fail> {
+    let id = id_of(alloc, words)?;
+    of_flag(alloc, table.waits(&id))
+}
+
+fn answers(alloc: Global, table: &mut CallTable, words: &str) -> Result<String, Fail> {
+    let id = id_of(alloc, words)?;
+    of_check(alloc, table.answer(&id))
+}
+
+fn drawn(alloc: Global, table: &CallTable) -> Result<String, Fail> {
+    of_number(alloc, table.drawn())
+}
+
+fn loses(alloc: Global, table: &mut CallTable) -> Result<String, Fail> {
+    table.lose_all();
+    word(alloc, "ok")
+}
+
+fn starves(alloc: Global, table: &mut CallTable) -> Result<String, Fail> {
+    table.starve_all();
+    word(alloc, "ok")
+}
+
+/// What is seen of the table.
+fn looks(alloc: Global, table: &CallTable, name: &str, words: &str) -> Result<String, Fail> {
+    match name {
+        "foresees" => foresees(alloc, table, words),
+        "outcome" => outcome(alloc, table, count(words)),
+        "waits" => waits(alloc, table, words),
+        "drawn" => drawn(alloc, table),
+        _ => word(alloc, "no such call"),
+    }
+}
+
+/// What befalls the table from the peer, or at the end of the connection.
+fn befalls(alloc: Global, table: &mut CallTable, name: &str, words: &str) -> Result<String, Fail> {
+    match name {
+        "settles" => settles(alloc, table, words),
+        "reports" => reports(alloc, table, words),
+        "hears" => hears(alloc, table, words),
+        "loses" => loses(alloc, table),
+        "starves" => starves(alloc, table),
+        _ => looks(alloc, table, name, words),
+    }
+}
+
+impl Table for CallTable {
+    fn empty(alloc: Global) -> CallTable {
+        CallTable::new(alloc)
+    }
+
+    fn call(&mut self, alloc: Global, call: &str) -> Result<String, Fail> {
+        let (name, words) = first(call);
+        match name {
+            "begins" => begins(alloc, self, words),
+            "cancels" => cancels(alloc, self, count(words)),
+            "forgets" => forgets(alloc, self, count(words)),
+            "takes" => takes(alloc, self, count(words)),
+            "answers" => answers(alloc, self, words),
+            _ => befalls(alloc, self, name, words),
+        }
+    }
 }
 
 #[test]
 fn own_requests_keep_their_first_response(rt: HostRuntime) -> Result<(), Fail> {
-    let first = Id::Number(1);
-    let mut table = CallTable::new(rt.alloc());
-    assert!(rt; begins(&mut table, 1) && begins(&mut table, 2));
-    assert_eq!(rt; told(&table, 1), "not yet");
-    assert!(rt; settles(&mut table, &first, 5, Settled::First(1, Expect::Plain)));
-    assert!(rt; settles(&mut table, &first, 7, Settled::Stray));
-    assert_eq!(rt; told(&table, 1), "5");
-    assert_eq!(rt; told(&table, 2), "not yet");
-    assert_eq!(rt; told(&table, 3), "no request");
-    Ok(())
+    let rows = "
+        begins      | 1
+        begins      | 2
+        outcome 1   | not yet
+        foresees 1  | First(1, Plain)
+        settles 1 5 | First(1, Plain)
+        foresees 1  | Stray
+        settles 1 7 | Stray
+        outcome 1   | 5
+        outcome 2   | not yet
+        outcome 3   | no request";
+    a_life::<CallTable>(&rt, rt.alloc(), &[rows])
 }
 
 /// Neither a text nor an unknown number names request 1.
 #[test]
 fn other_ids_name_no_request(rt: HostRuntime) -> Result<(), Fail> {
-    let name = Id::Name(Text::from_str(rt.alloc(), "1")?);
-    let mut table = CallTable::new(rt.alloc());
-    assert!(rt; begins(&mut table, 1));
-    assert!(rt; settles(&mut table, &name, 5, Settled::Stray));
-    assert!(rt; settles(&mut table, &Id::Number(0), 5, Settled::Stray));
-    assert!(rt; settles(&mut table, &Id::Number(-1), 5, Settled::Stray));
-    assert_eq!(rt; told(&table, 1), "not yet");
-    Ok(())
+    let rows = r#"
+        begins        | 1
+        foresees "1"  | Stray
+        settles "1" 5 | Stray
+        foresees 0    | Stray
+        settles 0 5   | Stray
+        foresees -1   | Stray
+        settles -1 5  | Stray
+        outcome 1     | not yet"#;
+    a_life::<CallTable>(&rt, rt.alloc(), &[rows])
 }
 
 #[test]
 fn outcomes_are_kept_until_forgotten(rt: HostRuntime) -> Result<(), Fail> {
-    let first = Id::Number(1);
-    let mut table = CallTable::new(rt.alloc());
-    assert!(rt; begins(&mut table, 1) && begins(&mut table, 2));
-    assert!(rt; !forgets(&mut table, 1));
-    assert!(rt; settles(&mut table, &first, 5, Settled::First(1, Expect::Plain)));
-    table.lose_all();
-    assert_eq!(rt; told(&table, 1), "5");
-    assert_eq!(rt; told(&table, 2), "lost");
-    assert!(rt; settles(&mut table, &Id::Number(2), 5, Settled::Stray));
-    assert!(rt; forgets(&mut table, 1) && !forgets(&mut table, 1));
-    assert_eq!(rt; told(&table, 1), "no request");
-    assert_eq!(rt; table.drawn(), 2);
-    Ok(())
+    let rows = "
+        begins      | 1
+        begins      | 2
+        forgets 1   | NoRequest
+        foresees 1  | First(1, Plain)
+        settles 1 5 | First(1, Plain)
+        loses       | ok
+        outcome 1   | 5
+        outcome 2   | lost
+        foresees 2  | Stray
+        settles 2 5 | Stray
+        forgets 1   | ok
+        forgets 1   | NoRequest
+        outcome 1   | no request
+        drawn       | 2";
+    a_life::<CallTable>(&rt, rt.alloc(), &[rows])
 }
 
 #[test]
 fn requests_of_a_stopped_connection_starve(rt: HostRuntime) -> Result<(), Fail> {
-    let mut table = CallTable::new(rt.alloc());
-    assert!(rt; begins(&mut table, 1));
-    table.starve_all();
-    assert_eq!(rt; told(&table, 1), "starved");
-    Ok(())
+    let rows = "
+        begins    | 1
+        starves   | ok
+        outcome 1 | starved";
+    a_life::<CallTable>(&rt, rt.alloc(), &[rows])
 }
 
 #[test]
 fn requests_of_the_peer_wait_for_their_answer(rt: HostRuntime) -> Result<(), Fail> {
-    let first = Id::Number(1);
-    let mut table = CallTable::new(rt.alloc());
-    assert_eq!(rt; hears(&mut table, Id::Number(1)), "new");
-    assert_eq!(rt; hears(&mut table, Id::Number(1)), "duplicate");
-    assert_eq!(rt;
-        hears(&mut table, Id::Name(Text::from_str(rt.alloc(), "1")?)),
-        "new"
-    );
-    assert!(rt; answers(&mut table, &first) && !answers(&mut table, &first));
-    assert_eq!(rt; hears(&mut table, Id::Number(1)), "new");
-    Ok(())
+    let rows = r#"
+        hears 1   | new
+        hears 1   | duplicate
+        hears "1" | new
+        waits 1   | true
+        answers 1 | ok
+        waits 1   | false
+        answers 1 | NoRequest
+        hears 1   | new"#;
+    a_life::<CallTable>(&rt, rt.alloc(), &[rows])
 }
 
 #[test]
 fn a_request_is_cancelled_once(rt: HostRuntime) -> Result<(), Fail> {
-    let mut table = CallTable::new(rt.alloc());
-    assert!(rt; begins(&mut table, 1) && begins(&mut table, 2));
-    assert_eq!(rt; table.cancel(1), Ok(()));
-    assert_eq!(rt; table.cancel(1), Err(Refusal::AlreadyCancelled));
-    assert_eq!(rt; told(&table, 1), "not yet");
-    assert!(rt;
-        settles(
-            &mut table,
-            &Id::Number(1),
-            5,
-            Settled::First(1, Expect::Plain)
-        )
-    );
-    assert_eq!(rt; table.cancel(1), Err(Refusal::NoRequest));
-    table.lose_all();
-    assert_eq!(rt; table.cancel(2), Err(Refusal::NoRequest));
-    assert_eq!(rt; table.cancel(3), Err(Refusal::NoRequest));
-    Ok(())
+    let rows = "
+        begins      | 1
+        begins      | 2
+        cancels 1   | ok
+        cancels 1   | AlreadyCancelled
+        outcome 1   | not yet
+        foresees 1  | First(1, Plain)
+        settles 1 5 | First(1, Plain)
+        cancels 1   | NoRequest
+        loses       | ok
+        cancels 2   | NoRequest
+        cancels 3   | NoRequest";
+    a_life::<CallTable>(&rt, rt.alloc(), &[rows])
 }
 
 /// Reports are kept until they are taken, or their request is forgotten, and none is after the answer.
 #[test]
 fn reports_are_taken_in_their_order(rt: HostRuntime) -> Result<(), Fail> {
-    let mut table = CallTable::new(rt.alloc());
-    assert!(rt; table.begin(Expect::Plain, true) == Ok(1) && begins(&mut table, 2));
-    assert!(rt; reports(&mut table, 1, 5)? && reports(&mut table, 1, 7)?);
-    assert!(rt; !reports(&mut table, 2, 5)? && !reports(&mut table, 3, 5)?);
-    assert_eq!(rt; taken(&mut table, 1), "5");
-    assert_eq!(rt; taken(&mut table, 2), "no token");
-    assert_eq!(rt; taken(&mut table, 3), "no request");
-    assert!(rt;
-        settles(
-            &mut table,
-            &Id::Number(1),
-            5,
-            Settled::First(1, Expect::Plain)
-        )
-    );
-    assert!(rt; !reports(&mut table, 1, 5)?);
-    assert_eq!(rt; taken(&mut table, 1), "7");
-    assert_eq!(rt; taken(&mut table, 1), "none");
-    assert!(rt; forgets(&mut table, 1));
-    assert_eq!(rt; taken(&mut table, 1), "no request");
-    Ok(())
+    let rows = "
+        begins progress | 1
+        begins          | 2
+        reports 1 5     | true
+        reports 1 7     | true
+        reports 2 5     | false
+        reports 3 5     | false
+        takes 1         | 5
+        takes 2         | NoToken
+        takes 3         | NoRequest
+        foresees 1      | First(1, Plain)
+        settles 1 5     | First(1, Plain)
+        reports 1 5     | false
+        takes 1         | 7
+        takes 1         | none
+        forgets 1       | ok
+        takes 1         | NoRequest";
+    a_life::<CallTable>(&rt, rt.alloc(), &[rows])
 }

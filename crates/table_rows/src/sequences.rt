@@ -1,210 +1,343 @@
 //! Worked sequences.
 
+use crate::answers::{of_check, of_done, of_number, of_refusal};
+use crate::rows::{Table, a_life};
+use crate::values::{count_if_any, first};
 use enumerables::{Consumer, Producer, page_value, sequence_value};
+use row_words::{count, id_of, number, of_value, size, whole, word};
 use rpc_items::{Expect, Outcome};
 use std::alloc::Global;
 use std::test::Fail;
-use wire_base::{Datum, DatumList, Id, Node, OutOfMemory, Refusal, Whole};
+use wire_base::{Datum, DatumList, Id, OutOfMemory, Refusal};
+
+fn push_numbers(values: &mut DatumList, last: i64) -> Result<(), Fail> {
+    for n in 1..=last {
+        values.push(whole(n))?;
+    }
+    Ok(())
+}
 
 /// The numbers from 1 to this one.
-fn numbers(alloc: Global, last: u64) -> Result<DatumList, OutOfMemory> {
+fn numbers(alloc: Global, last: i64) -> Result<DatumList, Fail> {
     let mut values = DatumList::new(alloc);
-    for n in 1..=last {
-        values.push(Datum {
-            node: Node::Whole(Whole::from_u64(n)),
-        })?;
-    }
+    push_numbers(&mut values, last)?;
     Ok(values)
 }
 
-/// A producer that answered so many values with the first ones, in pages of a size.
-fn producer(alloc: Global, count: u64, page: u32, first: u32) -> Result<Producer, OutOfMemory> {
-    let mut producer = Producer::new(alloc);
-    producer.produce(numbers(alloc, count)?, page, first)?;
-    Ok(producer)
-}
-
-fn is_number(value: &Datum, number: u64) -> bool {
-    match &value.node {
-        Node::Whole(n) => n.get() == i128::from(number),
-        _ => false,
+fn of_next(alloc: Global, page: Result<Option<Datum>, OutOfMemory>) -> Result<String, Fail> {
+    match page {
+        Ok(Some(page)) => of_value(alloc, &page),
+        Ok(None) => word(alloc, "none"),
+        Err(_) => word(alloc, "OutOfMemory"),
     }
 }
 
-/// Whether these are the numbers from one to another.
-fn are(values: &[Datum], from: u64, to: u64) -> bool {
-    let mut number = from;
-    for value in values {
-        if !is_number(value, number) {
-            return false;
+/// The size of a page, and how many values come first.
+fn sizes(words: &str) -> (u32, u32) {
+    let (page, early) = first(words);
+    (size(page), size(early))
+}
+
+/// The words are how many values there are, the size of a page, and how many values come first.
+fn produces(alloc: Global, producer: &mut Producer, words: &str) -> Result<String, Fail> {
+    let (last, words) = first(words);
+    let (page, early) = sizes(words);
+    let values = numbers(alloc, number(last))?;
+    of_done(alloc, producer.produce(values, page, early))
+}
+
+/// Whether a sequence of the same words can be produced.
+fn checks(alloc: Global, producer: &Producer, words: &str) -> Result<String, Fail> {
+    let (last, words) = first(words);
+    let (page, early) = sizes(words);
+    let values = numbers(alloc, number(last))?;
+    of_check(alloc, producer.check(&values, page, early))
+}
+
+fn drawn(alloc: Global, producer: &Producer) -> Result<String, Fail> {
+    of_number(alloc, producer.drawn())
+}
+
+/// The next page of a token.
+fn shows(alloc: Global, producer: &Producer, token: &str) -> Result<String, Fail> {
+    let token = id_of(alloc, token)?;
+    of_next(alloc, producer.next_page(&token))
+}
+
+fn turn(alloc: Global, producer: &mut Producer, token: &Id) -> Result<String, Fail> {
+    producer.turn(token);
+    word(alloc, "ok")
+}
+
+/// The next page of a token is answered.
+fn turns_page(alloc: Global, producer: &mut Producer, token: &str) -> Result<String, Fail> {
+    let token = id_of(alloc, token)?;
+    turn(alloc, producer, &token)
+}
+
+fn give_up(alloc: Global, producer: &mut Producer, token: &Id) -> Result<String, Fail> {
+    producer.give_up(token);
+    word(alloc, "ok")
+}
+
+fn ends_token(alloc: Global, producer: &mut Producer, token: &str) -> Result<String, Fail> {
+    let token = id_of(alloc, token)?;
+    give_up(alloc, producer, &token)
+}
+
+fn ends_tokens(alloc: Global, producer: &mut Producer) -> Result<String, Fail> {
+    producer.end_all();
+    word(alloc, "ok")
+}
+
+impl Table for Producer {
+    fn empty(alloc: Global) -> Producer {
+        Producer::new(alloc)
+    }
+
+    fn call(&mut self, alloc: Global, call: &str) -> Result<String, Fail> {
+        let (name, words) = first(call);
+        match name {
+            "produces" => produces(alloc, self, words),
+            "checks" => checks(alloc, self, words),
+            "drawn" => drawn(alloc, self),
+            "shows" => shows(alloc, self, words),
+            "turns" => turns_page(alloc, self, words),
+            "gives-up" => ends_token(alloc, self, words),
+            "ends" => ends_tokens(alloc, self),
+            _ => word(alloc, "no such call"),
         }
-        number = number.wrapping_add(1);
     }
-    number == to.wrapping_add(1)
-}
-
-fn is_finished(page: &Datum, finished: bool) -> bool {
-    match &page.node {
-        Node::Pairs(members) => match members.last("finished") {
-            Some(value) => matches!(&value.node, Node::Flag(flag) if *flag == finished),
-            None => false,
-        },
-        _ => false,
-    }
-}
-
-fn has_values(page: &Datum, from: u64, to: u64) -> bool {
-    match &page.node {
-        Node::Pairs(members) => match members.last("values") {
-            Some(value) => match &value.node {
-                Node::Items(values) => are(values.as_slice(), from, to),
-                _ => false,
-            },
-            None => false,
-        },
-        _ => false,
-    }
-}
-
-/// Whether the next page of a token has the numbers from one to another, and is the last or isn't. Then it is answered.
-fn pages(producer: &mut Producer, token: i64, from: u64, to: u64, finished: bool) -> bool {
-    let id = Id::Number(token);
-    let is_it = match producer.next_page(&id) {
-        Ok(Some(page)) => is_finished(&page, finished) && has_values(&page, from, to),
-        _ => false,
-    };
-    producer.turn(&id);
-    is_it
-}
-
-fn has_none(producer: &Producer, id: &Id) -> bool {
-    matches!(producer.next_page(id), Ok(None))
 }
 
 #[test]
 fn values_come_once_and_in_order(rt: HostRuntime) -> Result<(), Fail> {
-    let mut producer = producer(rt.alloc(), 7, 3, 2)?;
-    assert!(rt; pages(&mut producer, 1, 3, 5, false));
-    assert!(rt; pages(&mut producer, 1, 6, 7, true));
-    assert!(rt; has_none(&producer, &Id::Number(1)));
-    Ok(())
+    let rows = r#"
+        produces 7 3 2 | ok
+        shows 1        | {"finished":false,"values":[3,4,5]}
+        turns 1        | ok
+        shows 1        | {"finished":true,"values":[6,7]}
+        turns 1        | ok
+        shows 1        | none"#;
+    a_life::<Producer>(&rt, rt.alloc(), &[rows])
 }
 
 #[test]
 fn a_full_page_can_be_the_last(rt: HostRuntime) -> Result<(), Fail> {
-    let mut producer = producer(rt.alloc(), 6, 3, 0)?;
-    assert!(rt; pages(&mut producer, 1, 1, 3, false));
-    assert!(rt; pages(&mut producer, 1, 4, 6, true));
-    assert!(rt; has_none(&producer, &Id::Number(1)));
-    Ok(())
+    let rows = r#"
+        produces 6 3 0 | ok
+        shows 1        | {"finished":false,"values":[1,2,3]}
+        turns 1        | ok
+        shows 1        | {"finished":true,"values":[4,5,6]}
+        turns 1        | ok
+        shows 1        | none"#;
+    a_life::<Producer>(&rt, rt.alloc(), &[rows])
 }
 
 #[test]
 fn pages_can_be_of_one_value(rt: HostRuntime) -> Result<(), Fail> {
-    let mut producer = producer(rt.alloc(), 2, 1, 0)?;
-    assert!(rt; pages(&mut producer, 1, 1, 1, false));
-    assert!(rt; pages(&mut producer, 1, 2, 2, true));
-    Ok(())
+    let rows = r#"
+        produces 2 1 0 | ok
+        shows 1        | {"finished":false,"values":[1]}
+        turns 1        | ok
+        shows 1        | {"finished":true,"values":[2]}
+        turns 1        | ok"#;
+    a_life::<Producer>(&rt, rt.alloc(), &[rows])
 }
 
 /// No token is drawn where the first values are all.
 #[test]
 fn tokens_are_drawn_where_values_are_left(rt: HostRuntime) -> Result<(), Fail> {
-    assert_eq!(rt; producer(rt.alloc(), 0, 3, 0)?.drawn(), 0);
-    assert_eq!(rt; producer(rt.alloc(), 3, 3, 4)?.drawn(), 0);
-    assert_eq!(rt; producer(rt.alloc(), 3, 3, 3)?.drawn(), 0);
-    assert_eq!(rt; producer(rt.alloc(), 3, 3, 2)?.drawn(), 1);
-    Ok(())
+    let rows = "
+        produces 0 3 0 | ok
+        drawn          | 0
+        anew           | ok
+        produces 3 3 4 | ok
+        drawn          | 0
+        anew           | ok
+        produces 3 3 3 | ok
+        drawn          | 0
+        anew           | ok
+        produces 3 3 2 | ok
+        drawn          | 1";
+    a_life::<Producer>(&rt, rt.alloc(), &[rows])
 }
 
 #[test]
 fn tokens_end_alone(rt: HostRuntime) -> Result<(), Fail> {
-    let mut producer = producer(rt.alloc(), 3, 2, 0)?;
-    producer.produce(numbers(rt.alloc(), 2)?, 2, 1)?;
-    assert_eq!(rt; producer.drawn(), 2);
-    producer.give_up(&Id::Number(0));
-    producer.give_up(&Id::Number(1));
-    assert!(rt; has_none(&producer, &Id::Number(0)));
-    assert!(rt; has_none(&producer, &Id::Number(1)));
-    assert!(rt; has_none(&producer, &Id::Number(3)));
-    assert!(rt; pages(&mut producer, 2, 2, 2, true));
-    Ok(())
+    let rows = r#"
+        produces 3 2 0 | ok
+        produces 2 2 1 | ok
+        drawn          | 2
+        gives-up 0     | ok
+        gives-up 1     | ok
+        shows 0        | none
+        shows 1        | none
+        shows 3        | none
+        shows 2        | {"finished":true,"values":[2]}
+        turns 2        | ok"#;
+    a_life::<Producer>(&rt, rt.alloc(), &[rows])
 }
 
 #[test]
 fn no_token_lives_after_the_end(rt: HostRuntime) -> Result<(), Fail> {
-    let mut producer = producer(rt.alloc(), 3, 2, 0)?;
-    producer.end_all();
-    assert!(rt; has_none(&producer, &Id::Number(1)));
-    Ok(())
+    let rows = "
+        produces 3 2 0 | ok
+        ends           | ok
+        shows 1        | none";
+    a_life::<Producer>(&rt, rt.alloc(), &[rows])
 }
 
 #[test]
 fn pages_have_a_value(rt: HostRuntime) -> Result<(), Fail> {
-    let producer = Producer::new(rt.alloc());
-    let values = numbers(rt.alloc(), 1)?;
-    assert!(rt; producer.check(&values, 0, 1) == Err(Refusal::BadPage));
-    assert!(rt; producer.check(&values, 1, 0) == Ok(()));
-    Ok(())
+    let rows = "
+        checks 1 0 1 | BadPage
+        checks 1 1 0 | ok";
+    a_life::<Producer>(&rt, rt.alloc(), &[rows])
 }
 
-/// The result that is a sequence, with a token or without.
-fn sequence(alloc: Global, token: Option<u64>) -> Result<Outcome, OutOfMemory> {
-    Ok(Outcome::Replied(sequence_value(alloc, token, numbers(alloc, 1)?.as_slice())?))
+/// The result that is a sequence of one value, with a token or without.
+fn sequence(alloc: Global, token: Option<u64>) -> Result<Outcome, Fail> {
+    let values = numbers(alloc, 1)?;
+    Ok(Outcome::Replied(sequence_value(alloc, token, values.as_slice())?))
 }
 
-fn page(alloc: Global, finished: bool) -> Result<Outcome, OutOfMemory> {
-    Ok(Outcome::Replied(page_value(alloc, finished, numbers(alloc, 1)?.as_slice())?))
+/// The result that is a page of one value.
+fn page(alloc: Global, is_last: bool) -> Result<Outcome, Fail> {
+    let values = numbers(alloc, 1)?;
+    Ok(Outcome::Replied(page_value(alloc, is_last, values.as_slice())?))
 }
 
-fn follows(consumer: &Consumer, n: u64, token: i64) -> bool {
-    matches!(consumer.check(n), Ok(Id::Number(number)) if *number == token)
+/// The outcome that words stand for: `sequence` with its token if it has one, `page` with `last` or `more`, or `lost`.
+fn outcome(alloc: Global, words: &str) -> Result<Outcome, Fail> {
+    let (name, word) = first(words);
+    match name {
+        "sequence" => sequence(alloc, count_if_any(word)),
+        "page" => page(alloc, word == "last"),
+        _ => Ok(Outcome::Lost),
+    }
 }
 
-fn is_refused(consumer: &Consumer, n: u64, why: Refusal) -> bool {
-    matches!(consumer.check(n), Err(refusal) if refusal == why)
+fn expect(word: &str) -> Expect {
+    match word {
+        "expected" => Expect::Sequence,
+        _ => Expect::Plain,
+    }
+}
+
+fn settle(
+    alloc: Global,
+    consumer: &mut Consumer,
+    n: u64,
+    expect: Expect,
+    outcome: &Outcome,
+) -> Result<String, Fail> {
+    of_done(alloc, consumer.settle(n, expect, outcome))
+}
+
+/// The words are a request, whether a sequence was `expected` or its result is `plain`, and its outcome.
+fn settles(alloc: Global, consumer: &mut Consumer, words: &str) -> Result<String, Fail> {
+    let (n, words) = first(words);
+    let (expect_word, words) = first(words);
+    let outcome = outcome(alloc, words)?;
+    settle(alloc, consumer, count(n), expect(expect_word), &outcome)
+}
+
+/// A number, or a name between quotes.
+fn of_id(alloc: Global, id: &Id) -> Result<String, Fail> {
+    match id {
+        Id::Number(n) => Ok(format!(in alloc; "{n}")?),
+        Id::Name(name) => Ok(format!(in alloc; "\"{}\"", name.as_str())?),
+    }
+}
+
+fn of_token(alloc: Global, answer: Result<&Id, Refusal>) -> Result<String, Fail> {
+    match answer {
+        Ok(token) => of_id(alloc, token),
+        Err(refusal) => of_refusal(alloc, refusal),
+    }
+}
+
+/// The token of the sequence that is the result of a request.
+fn follows(alloc: Global, consumer: &Consumer, n: u64) -> Result<String, Fail> {
+    of_token(alloc, consumer.check(n))
+}
+
+/// The words are the request of a sequence, and the one that asks for its next page.
+fn asks_page(alloc: Global, consumer: &mut Consumer, words: &str) -> Result<String, Fail> {
+    let (n, asking) = first(words);
+    consumer.turn(count(n), count(asking));
+    word(alloc, "ok")
+}
+
+fn leaves(alloc: Global, consumer: &mut Consumer, n: u64) -> Result<String, Fail> {
+    consumer.give_up(n);
+    word(alloc, "ok")
+}
+
+fn leaves_all(alloc: Global, consumer: &mut Consumer) -> Result<String, Fail> {
+    consumer.end_all();
+    word(alloc, "ok")
+}
+
+impl Table for Consumer {
+    fn empty(alloc: Global) -> Consumer {
+        Consumer::new(alloc)
+    }
+
+    fn call(&mut self, alloc: Global, call: &str) -> Result<String, Fail> {
+        let (name, words) = first(call);
+        match name {
+            "settles" => settles(alloc, self, words),
+            "follows" => follows(alloc, self, count(words)),
+            "turns" => asks_page(alloc, self, words),
+            "gives-up" => leaves(alloc, self, count(words)),
+            "ends" => leaves_all(alloc, self),
+            _ => word(alloc, "no such call"),
+        }
+    }
 }
 
 #[test]
 fn a_sequence_is_followed_to_its_last_page(rt: HostRuntime) -> Result<(), Fail> {
-    let mut consumer = Consumer::new(rt.alloc());
-    consumer.settle(1, Expect::Sequence, &sequence(rt.alloc(), Some(5))?)?;
-    assert!(rt; follows(&consumer, 1, 5));
-    consumer.turn(1, 2);
-    assert!(rt; is_refused(&consumer, 1, Refusal::NextOutstanding));
-    consumer.settle(2, Expect::Plain, &page(rt.alloc(), false)?)?;
-    assert!(rt; follows(&consumer, 1, 5));
-    consumer.turn(1, 3);
-    consumer.settle(3, Expect::Plain, &page(rt.alloc(), true)?)?;
-    assert!(rt; is_refused(&consumer, 1, Refusal::NoEnumerable));
-    Ok(())
+    let rows = "
+        settles 1 expected sequence 5 | ok
+        follows 1                     | 5
+        turns 1 2                     | ok
+        follows 1                     | NextOutstanding
+        settles 2 plain page more     | ok
+        follows 1                     | 5
+        turns 1 3                     | ok
+        settles 3 plain page last     | ok
+        follows 1                     | NoEnumerable";
+    a_life::<Consumer>(&rt, rt.alloc(), &[rows])
 }
 
 #[test]
 fn a_page_is_of_one_sequence(rt: HostRuntime) -> Result<(), Fail> {
-    let mut consumer = Consumer::new(rt.alloc());
-    consumer.settle(1, Expect::Sequence, &sequence(rt.alloc(), Some(5))?)?;
-    consumer.settle(2, Expect::Sequence, &sequence(rt.alloc(), Some(6))?)?;
-    consumer.turn(1, 3);
-    consumer.turn(2, 4);
-    consumer.settle(4, Expect::Plain, &Outcome::Lost)?;
-    assert!(rt; is_refused(&consumer, 1, Refusal::NextOutstanding));
-    assert!(rt; is_refused(&consumer, 2, Refusal::NoEnumerable));
-    consumer.end_all();
-    assert!(rt; is_refused(&consumer, 1, Refusal::NoEnumerable));
-    Ok(())
+    let rows = "
+        settles 1 expected sequence 5 | ok
+        settles 2 expected sequence 6 | ok
+        turns 1 3                     | ok
+        turns 2 4                     | ok
+        settles 4 plain lost          | ok
+        follows 1                     | NextOutstanding
+        follows 2                     | NoEnumerable
+        ends                          | ok
+        follows 1                     | NoEnumerable";
+    a_life::<Consumer>(&rt, rt.alloc(), &[rows])
 }
 
 /// Neither a sequence that has no values left is followed, nor one that wasn't expected, nor one that was given up.
 #[test]
 fn other_sequences_are_not_followed(rt: HostRuntime) -> Result<(), Fail> {
-    let mut consumer = Consumer::new(rt.alloc());
-    consumer.settle(1, Expect::Sequence, &sequence(rt.alloc(), None)?)?;
-    consumer.settle(2, Expect::Plain, &sequence(rt.alloc(), Some(5))?)?;
-    consumer.settle(3, Expect::Sequence, &sequence(rt.alloc(), Some(6))?)?;
-    consumer.give_up(3);
-    assert!(rt; is_refused(&consumer, 1, Refusal::NoEnumerable));
-    assert!(rt; is_refused(&consumer, 2, Refusal::NoEnumerable));
-    assert!(rt; is_refused(&consumer, 3, Refusal::NoEnumerable));
-    Ok(())
+    let rows = "
+        settles 1 expected sequence   | ok
+        settles 2 plain sequence 5    | ok
+        settles 3 expected sequence 6 | ok
+        gives-up 3                    | ok
+        follows 1                     | NoEnumerable
+        follows 2                     | NoEnumerable
+        follows 3                     | NoEnumerable";
+    a_life::<Consumer>(&rt, rt.alloc(), &[rows])
 }
