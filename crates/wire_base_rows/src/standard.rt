@@ -1,9 +1,12 @@
 //! Sources and sinks over a reader and a writer of the tests' own.
 
+use crate::calls::{are_same, gives, takes};
+use std::alloc::Global;
 use std::io;
 use std::io::{ErrorKind, Read, Write};
+use std::process::Abort;
 use std::test::Fail;
-use wire_base::{Failed, Sink, Source, StdSink, StdSource};
+use wire_base::{StdSink, StdSource};
 
 /// Two bytes at most a call, and nothing at its second.
 struct ShortReader<'a> {
@@ -61,46 +64,91 @@ impl Write for ShortWriter {
     }
 }
 
-#[test]
-fn a_source_gives_what_its_reader_gives(rt: HostRuntime) {
-    let rest = b"abc".as_slice();
-    let mut reader = ShortReader { rest, calls: 0 };
-    let mut source = StdSource::new(&mut reader);
+fn is_count(rt: &impl Abort, count: u32, wanted: u32) {
+    assert_eq!(rt; count, wanted);
+}
+
+fn gives_all(
+    rt: &impl Abort,
+    alloc: Global,
+    reader: &mut ShortReader<'_>,
+    rows: &str,
+) -> Result<(), Fail> {
     let mut buf = *b"....";
-    let reads: [(Result<usize, Failed>, &[u8]); 4] = [
-        (Ok(2), b"ab.."),
-        (Err(Failed), b"ab.."),
-        (Ok(1), b"cb.."),
-        (Ok(0), b"cb.."),
-    ];
-    for (answer, held) in reads {
-        assert_eq!(rt; source.read(&mut buf), answer);
-        assert_eq!(rt; buf.as_slice(), held);
-    }
-    drop(source);
-    assert_eq!(rt; reader.calls, 4);
+    let mut source = StdSource::new(reader);
+    gives(rt, alloc, &mut source, &mut buf, rows)
+}
+
+fn is_read(
+    rt: &impl Abort,
+    alloc: Global,
+    reader: &mut ShortReader<'_>,
+    rows: &str,
+    calls: u32,
+) -> Result<(), Fail> {
+    gives_all(rt, alloc, reader, rows)?;
+    is_count(rt, reader.calls, calls);
+    Ok(())
+}
+
+fn reader(rest: &[u8]) -> ShortReader<'_> {
+    ShortReader { rest, calls: 0 }
 }
 
 #[test]
-fn a_sink_writes_and_flushes_its_writer(rt: HostRuntime) {
-    let mut writer = ShortWriter {
-        given: Vec::new(rt.alloc()),
+fn a_source_gives_what_its_reader_gives(rt: HostRuntime) -> Result<(), Fail> {
+    let rows = "
+        2      | ab..
+        failed | ab..
+        1      | cb..
+        0      | cb..";
+    is_read(&rt, rt.alloc(), &mut reader(b"abc"), rows, 4)
+}
+
+fn takes_all(
+    rt: &impl Abort,
+    alloc: Global,
+    writer: &mut ShortWriter,
+    rows: &str,
+) -> Result<(), Fail> {
+    let mut sink = StdSink::new(writer);
+    takes(rt, alloc, &mut sink, rows)
+}
+
+/// What it was given, and how many writes and flushes came to it.
+fn has_taken(rt: &impl Abort, writer: &ShortWriter, given: &str, writes: u32, flushes: u32) {
+    are_same(rt, writer.given.as_slice(), given);
+    is_count(rt, writer.writes, writes);
+    is_count(rt, writer.flushes, flushes);
+}
+
+fn is_written(
+    rt: &impl Abort,
+    alloc: Global,
+    writer: &mut ShortWriter,
+    rows: &str,
+) -> Result<(), Fail> {
+    takes_all(rt, alloc, writer, rows)?;
+    has_taken(rt, writer, "abc", 4, 2);
+    Ok(())
+}
+
+fn writer(alloc: Global) -> ShortWriter {
+    ShortWriter {
+        given: Vec::new(alloc),
         writes: 0,
         flushes: 0,
-    };
-    let mut sink = StdSink::new(&mut writer);
-    let writes: [(&[u8], Result<usize, Failed>); 4] = [
-        (b"abc", Ok(2)),
-        (b"c", Err(Failed)),
-        (b"c", Err(Failed)),
-        (b"c", Ok(1)),
-    ];
-    for (piece, answer) in writes {
-        assert_eq!(rt; sink.write(piece), answer);
     }
-    assert_eq!(rt; sink.flush(), Err(Failed));
-    assert_eq!(rt; sink.flush(), Ok(()));
-    drop(sink);
-    assert_eq!(rt; writer.given.as_slice(), b"abc".as_slice());
-    assert_eq!(rt; (writer.writes, writer.flushes), (4, 2));
+}
+
+#[test]
+fn a_sink_writes_and_flushes_its_writer(rt: HostRuntime) -> Result<(), Fail> {
+    let rows = "
+        write abc | 2
+        write c   | failed
+        write c   | failed
+        write c   | 1
+        flush     | failed
+        flush     | ok";
+    is_written(&rt, rt.alloc(), &mut writer(rt.alloc()), rows)
 }
