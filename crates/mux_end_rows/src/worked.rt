@@ -10,6 +10,7 @@ fn bytes_go_by_credit(rt: HostRuntime) -> Result<(), Fail> {
         offer 8                      | own1          | offer
         comes acceptance             | accepted own1 |
         write own1 68656c6c6f        | ok            | 94020101c40468656c6c
+        write own1                   | ok            |
         comes 940501ffc4029102       | credit own1 2 | 94020101c4016f
         comes 940501ffc4029103       | credit own1 3 |
         tally own1                   | Live 5 5 0 0  |
