@@ -3,7 +3,7 @@
 use crate::rows::{Claim, hold};
 use std::test::Fail;
 
-/// The last bytes that aren't UTF-8 end inside a character, and spell a surrogate.
+/// The last two end inside a character, and spell a surrogate.
 #[test]
 fn texts_are_utf8(rt: HostRuntime) -> Result<(), Fail> {
     let rows = r#"
