@@ -1,6 +1,5 @@
 //! Objects that are passed by handle, as values.
 
-ghost use Rattle.rpc_items.specs.Arguments.{most_drawn};
 ghost use Rattle.rpc_items.specs.Ids.{count_value};
 ghost use Rattle.rpc_items.specs.Objects.{handed_value, lifetime_text, object_value};
 ghost use Rattle.std.specs.Prelude.{◌≡◌, IfOk};

@@ -4,16 +4,16 @@ use Rattle.std.specs.Prelude.{◌&&◌, ◌||◌, ◌==◌, Bool, true, false, �
 use Rattle.std.specs.List.{list_any}
 use Rattle.std.proofs.Common.{◌≡◌, ◌≢◌, ℕ, ◌+◌, ◌-◌, ◌<◌, List, [], ◌∷◌, ◌++◌, length, drop, refl, sym, ◌∙◌, ap, ap₂, subst, inl, inr, arith, Option, Some, None}
 use Rattle.std.proofs.lemmas.Bool.{cases_Bool, and_parts, eq-eqb, eqb-true, ltb-true}
-use Rattle.std.proofs.lemmas.Bool.Decides.{Decides-int_eq}
 use Rattle.std.proofs.lemmas.List.Folds.{list_any-append}
-use Rattle.std.proofs.lemmas.Slice.Eq.{bytes_eq-Decides}
 use Rattle.std.proofs.lemmas.Map.Views.{any-filter_same}
 use Rattle.wire_base.specs.Tree.{Tree}
 use Rattle.wire_base.specs.declared.refusal.Refusal.{Refusal}
 use Rattle.wire_base.specs.declared.refusal.Refusal.TheVariants as refusal
 use Rattle.wire_base.specs.declared.state.Cause.{Cause}
 use Rattle.wire_base.specs.declared.text.Id.{Id}
-use Rattle.wire_base.specs.declared.text.Id.TheVariants.{Number, Name}
+use Rattle.wire_base.specs.Lists.{changed_at}
+use Rattle.wire_base.specs.Options.{or_else}
+use Rattle.wire_base.proofs.Places.{three_ways, changed_at_same, changed_at_other, length-changed_at}
 use Rattle.rpc_items.specs.declared.calls.Answer.{Answer}
 use Rattle.rpc_items.specs.declared.calls.Outcome.{Outcome}
 use Rattle.rpc_items.specs.declared.calls.Outcome.TheVariants.{Lost, Starved}
@@ -31,35 +31,23 @@ use Rattle.rpc_items.specs.Events.{answered_event}
 use Rattle.rpc_items.specs.Reports.{has_progress, report_by, report_in, reports}
 use Rattle.rpc_items.specs.Stable.{Settles}
 use Rattle.rpc_items.specs.Waiting.{asks, is_waiting}
-use Rattle.rpc_items.proofs.Answering.{same_id_eq}
 use Rattle.rpc_items.proofs.Stable.{is_drawn_more}
 use Rattle.rpc_items.proofs.Settling.{other, IsResponse, named_parts, settled_response}
 use Rattle.call_table.specs.declared.entry.Entry.{Entry}
 use Rattle.call_table.specs.declared.entry.Kept.TheVariants.{Answered}
 use Rattle.call_table.specs.declared.answers.Settled.{Settled}
 use Rattle.call_table.specs.declared.answers.Settled.TheVariants.{First, Stray}
-use Rattle.call_table.specs.Table.{TableValue, changed_at, with_changed, keeping, forgetting, cancelling, reporting, taking, with_forgotten, with_cancelled, with_taken, reported, reported_in, settled, settled_in, settled_by, entry_of, heard, answered, over, unless_some, look_in}
+use Rattle.call_table.specs.Table.{TableValue, with_changed, keeping, forgetting, cancelling, reporting, taking, with_forgotten, with_cancelled, with_taken, reported, reported_in, settled, settled_in, settled_by, entry_of, heard, answered, over, look_in}
 use Rattle.call_table.specs.Stands.{TableStands, IsReport, kept_unless, kept_of, left_unless, left_of, entry_as, entry_after, entry_at, rest_by, can_come}
 use Rattle.call_table.specs.Replies.{cancel_refusal, take_refusal}
-use Rattle.call_table.proofs.Places.{three_ways, changed_at_same, changed_at_other, length-changed_at}
-use Rattle.call_table.proofs.Reading.{names, numbered, drawn_some, looks, cancels_as, takes_as, reports_as, if_progress}
+use Rattle.call_table.proofs.Reading.{names, numbered, looks, cancels_as, takes_as, reports_as, if_progress}
 use Rattle.rpc_items.proofs.Reported.{apart_false, asks_no_report, reports_more, reports_nothing, reports_unkept, taken_other, taken_this}
-use Rattle.call_table.proofs.Standing.{IsKept, and_false, passed, passed_with, asked_same, entry_same, kept_same, left_same, call_same, end_same, can_come_more, forgotten_then, cancelled_then}
+use Rattle.rpc_items.proofs.SameIds.{same_id_eq, same_id_refl, same_id_sym}
+use Rattle.rpc_items.proofs.Undrawn.{call_same, end_same, drawn_some}
+use Rattle.rpc_items.proofs.Numbered.{numbered_at}
+use Rattle.call_table.proofs.Standing.{IsKept, and_false, passed, passed_with, asked_same, entry_same, kept_same, left_same, can_come_more, forgotten_then, cancelled_then}
 
 -- requests of the peer
-
-pub same_id_refl : (id : Id) → same_id id id ≡ true
-same_id_refl (Number z) = (Decides-int_eq z z).1 refl
-same_id_refl (Name s) = (bytes_eq-Decides s s).1 refl
-
-pub same_id_sym : (a b : Id) → same_id a b ≡ same_id b a
-same_id_sym a b = elim (cases_Bool (same_id a b)) [
-  | inl e ↦ e ∙ sym (ap (λ (x : Id). same_id b x) (same_id_eq a b e) ∙ same_id_refl b)
-  | inr e ↦ elim (cases_Bool (same_id b a)) [
-    | inl f ↦ absurd (cc (sym (ap (λ (x : Id). same_id a x) (same_id_eq b a f) ∙ same_id_refl a) ∙ e))
-    | inr f ↦ e ∙ sym f
-  ]
-]
 
 last_or : (x y : Bool) → (y || (x || false)) ≡ (if x then true else y)
 last_or true true = refl
@@ -100,12 +88,6 @@ answered_stands id answer table items s =
         ∙ ap₂ (λ (b w : Bool). if b then false else w) (same_id_sym x id) (s.waiting x))
 
 -- one request becomes another
-
-above_none : (n : ℕ) → 0 < n → (n == 0) ≡ false
-above_none n l = elim (cases_Bool (n == 0)) [ inl e ↦ absurd (omega (arith, eqb-true n 0 e, l)) | inr e ↦ e ]
-
-pub numbered_at : {A : Type 0} (n : ℕ) (xs : List A) → 0 < n → with_number n xs ≡ slice_get xs (n - 1)
-numbered_at n xs l = rw (above_none n l) refl
 
 drawn_above : (n : ℕ) (items : List RpcItem) → is_drawn n items ≡ true → 0 < n
 drawn_above n items e = ltb-true 0 n (and_parts (nat_lt 0 n) (nat_le n (drawn items)) e).0
@@ -414,7 +396,7 @@ reported_stands token value place message table items is s = by (if_progress (re
 
 -- the end, and the stop
 
-lost_rest : (r : Bool) → unless_some (rest_by r false) Lost ≡ Some Lost
+lost_rest : (r : Bool) → or_else (rest_by r false) (Some Lost) ≡ Some Lost
 lost_rest true = refl
 lost_rest false = refl
 
@@ -422,13 +404,13 @@ pub lost_stands : (cause : Cause) (table : TableValue) (items : List RpcItem) �
 lost_stands cause table items s = record {
   count = s.count ∙ ap length (sym (asked_same (End cause) items refl));
   each = λ i. s.each i ∙ sym (entry_same i (End cause) items refl (record { kept = kept_same (i + 1) (End cause) items refl (end_same (i + 1) cause items); cancelled = refl; left = refl }));
-  rest = ap (λ (r : Option Outcome). unless_some r Lost) s.rest ∙ lost_rest (is_running items);
+  rest = ap (λ (r : Option Outcome). or_else r (Some Lost)) s.rest ∙ lost_rest (is_running items);
   waiting = λ id. s.waiting id;
   forgotten = λ n f. forgotten_then false table n (End cause) items s f;
   cancelled = λ n c. cancelled_then false table n (End cause) items s c;
 }
 
-starved_rest : (r : Bool) → unless_some (rest_by r false) Starved ≡ rest_by r true
+starved_rest : (r : Bool) → or_else (rest_by r false) (Some Starved) ≡ rest_by r true
 starved_rest true = refl
 starved_rest false = refl
 
@@ -436,7 +418,7 @@ pub starved_stands : (table : TableValue) (items : List RpcItem) → TableStands
 starved_stands table items s = record {
   count = s.count;
   each = s.each;
-  rest = ap (λ (r : Option Outcome). unless_some r Starved) s.rest ∙ starved_rest (is_running items);
+  rest = ap (λ (r : Option Outcome). or_else r (Some Starved)) s.rest ∙ starved_rest (is_running items);
   waiting = s.waiting;
   forgotten = s.forgotten;
   cancelled = s.cancelled;

@@ -1,15 +1,8 @@
 -- A request that becomes another.
-use Rattle.std.specs.Prelude.{set, slice_get, zero, suc}
+use Rattle.std.specs.Prelude.{slice_get, zero, suc}
 use Rattle.std.proofs.Common.{◌≡◌, ℕ, ◌<◌, List, [], ◌∷◌, ◌++◌, length, get_or, refl, sym, ap, arith, Option, Some, None, IsSome, option_to_list}
 use Rattle.wire_base.specs.Tree.{Tree}
 use Rattle.call_table.specs.declared.entry.Entry.{Entry}
-use Rattle.call_table.specs.Table.{changed_at}
-
--- a write of that request
-pub changed_is_set : (entries : List Entry) (i : ℕ) (change : Entry → Entry) (entry : Entry) → entry ≡ get_or entries i entry → i < length entries → set entries i (change entry) ≡ changed_at i change entries
-changed_is_set [] i change entry e l = absurd (omega (arith, l))
-changed_is_set (x ∷ xs) zero change entry e l = ap (λ (y : Entry). change y ∷ xs) e
-changed_is_set (x ∷ xs) (suc i) change entry e l = ap (λ (ys : List Entry). x ∷ ys) (changed_is_set xs i change entry e (omega (arith, l)))
 
 -- the request at a place that is within the list
 pub got_is_some : (entries : List Entry) (i : ℕ) (entry : Entry) → entry ≡ get_or entries i entry → i < length entries → slice_get entries i ≡ Some entry

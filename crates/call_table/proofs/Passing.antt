@@ -19,7 +19,8 @@ use Rattle.call_table.specs.Table.{TableValue}
 use Rattle.call_table.specs.Stands.{TableStands}
 use Rattle.call_table.proofs.Answering.{unasked_waits}
 use Rattle.rpc_items.proofs.Reported.{reports_nothing}
-use Rattle.call_table.proofs.Standing.{passed, call_same}
+use Rattle.rpc_items.proofs.Undrawn.{call_same}
+use Rattle.call_table.proofs.Standing.{passed}
 
 -- a call that neither draws a request nor forgets or cancels one, nor takes a report or answers a request of the peer
 pub record IsQuietCall (call : RpcCall) : Type 0 where

@@ -1,37 +1,32 @@
 -- What a table that stands for items tells is what the items tell.
 use Rattle.std.specs.Prelude.{◌&&◌, ◌||◌, ◌==◌, Bool, true, false, not, is_none, is_some, slice_get, option_map, pos, negsuc, if◌then◌else◌}
-use Rattle.std.proofs.Common.{◌≡◌, ℕ, ◌+◌, ◌-◌, ◌<◌, List, refl, sym, ◌∙◌, ap, ap₂, inl, inr, arith, Option, Some, None}
-use Rattle.std.proofs.lemmas.Bool.{cases_Bool, cases_lt, eq-eqb}
+use Rattle.std.proofs.Common.{◌≡◌, ℕ, ◌+◌, ◌-◌, List, refl, sym, ◌∙◌, ap, ap₂, inl, inr, arith, Option, Some, None}
+use Rattle.std.proofs.lemmas.Bool.{cases_Bool}
 use Rattle.wire_base.specs.Tree.{Tree}
 use Rattle.wire_base.specs.declared.refusal.Refusal.TheVariants as refusal
 use Rattle.wire_base.specs.declared.text.Id.{Id}
 use Rattle.wire_base.specs.declared.text.Id.TheVariants.{Number, Name}
+use Rattle.wire_base.proofs.Places.{above_zero}
 use Rattle.rpc_items.specs.declared.calls.Outcome.{Outcome}
 use Rattle.rpc_items.specs.Items.{RpcItem, Cancel, TakeReport, is_running}
 use Rattle.rpc_items.specs.Drawn.{Asked, with_number, asked, asked_at, is_drawn, is_forgotten, is_cancelled}
 use Rattle.rpc_items.specs.Outcomes.{NoRequest, look_at, outcome, answer_to, is_unanswered, request_named}
 use Rattle.rpc_items.specs.Refusals.{state_refusal}
 use Rattle.rpc_items.specs.Reports.{has_progress, progress_of, reports}
+use Rattle.rpc_items.proofs.Undrawn.{drawn_some}
 use Rattle.call_table.specs.declared.entry.Entry.{Entry}
 use Rattle.call_table.specs.declared.entry.Kept.{Kept}
 use Rattle.call_table.specs.Replies.{cancel_refusal, cancelling_refusal, entry_refusal, take_refusal}
 use Rattle.call_table.specs.Table.{TableValue, waits_for, named_in, entry_of, settled_by, settled_in, look_at_entry, look_in, if_reporting, reporting_of, reported_in, left_at_entry, left_in}
 use Rattle.call_table.specs.Stands.{TableStands, kept_unless, kept_of, left_of, left_unless, entry_as, entry_after, rest_by, can_come, settling_by, asked_of, settling}
-use Rattle.call_table.proofs.Places.{numbered_some}
 
 -- the request with a number
-
-pub above_zero : (n : ℕ) → (n == 0) ≡ false → 0 < n
-above_zero n e = elim (cases_lt 0 n) [ inl l ↦ l | inr l ↦ absurd (cc (sym (eq-eqb n 0 (omega (arith, l))) ∙ e)) ]
 
 pub numbered : (stopped : Bool) (table : TableValue) (items : List RpcItem) (n : ℕ) → TableStands stopped table items → with_number n table.requests ≡ option_map (entry_after n items) (asked_at n items)
 numbered stopped table items n s = elim (cases_Bool (n == 0)) [
   | inl e ↦ rw e refl
   | inr e ↦ rw e (s.each (n - 1) ∙ (let back : n - 1 + 1 ≡ n = omega (arith, above_zero n e) in ap (λ (m : ℕ). option_map (entry_after m items) (slice_get (asked items) (n - 1))) back))
 ]
-
-pub drawn_some : (n : ℕ) (items : List RpcItem) → is_drawn n items ≡ is_some (asked_at n items)
-drawn_some n items = numbered_some n (asked items)
 
 -- what can be told of it
 
@@ -92,7 +87,7 @@ cancelled_by waits false c d k left e some = ap (λ (b : Bool). cancelling_refus
 cancelled_by waits true c (Some a) k left e some = ap (λ (b : Bool). cancelling_refusal b (Some (entry_as a k c left))) e
 cancelled_by waits true c None k left e some = absurd (cc (some refl))
 
-unanswered_drawn : (r d n : Bool) → (r && d && n) ≡ true → d ≡ true
+pub unanswered_drawn : (r d n : Bool) → (r && d && n) ≡ true → d ≡ true
 unanswered_drawn true true n e = refl
 unanswered_drawn true false n e = absurd (cc e)
 unanswered_drawn false d n e = absurd (cc e)

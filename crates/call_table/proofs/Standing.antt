@@ -1,34 +1,27 @@
 -- A table stands for the items again after each call.
-use Rattle.std.specs.Prelude.{◌&&◌, Bool, true, false, ◌⊎◌, nat_lt, nat_le, slice_get, option_map, if◌then◌else◌}
+use Rattle.std.specs.Prelude.{◌&&◌, Bool, true, false, ◌⊎◌, slice_get, option_map}
 use Rattle.std.specs.List.{list_any}
 use Rattle.std.proofs.Common.{◌≡◌, ℕ, ◌+◌, ◌<◌, List, [], ◌∷◌, ◌++◌, length, refl, sym, ◌∙◌, ap, ap₂, inl, inr, arith, Option, Some, None, length-append}
-use Rattle.std.proofs.lemmas.Bool.{cases_Bool, and_parts, leb-true}
+use Rattle.std.proofs.lemmas.Bool.{cases_Bool}
+use Rattle.std.proofs.lemmas.List.{append-nil}
 use Rattle.std.proofs.lemmas.Option.{slice_get_past}
-use Rattle.wire_base.specs.declared.state.Cause.{Cause}
 use Rattle.wire_base.specs.declared.text.Id.{Id}
+use Rattle.wire_base.proofs.Places.{get_before, get_last, three_ways}
 use Rattle.rpc_items.specs.declared.calls.Outcome.{Outcome}
 use Rattle.rpc_items.specs.Ids.{same_id}
-use Rattle.rpc_items.specs.Items.{RpcItem, Did, End, RpcCall, Ask, Next, Invoke, is_running}
+use Rattle.rpc_items.specs.Items.{RpcItem, Did, RpcCall, Ask, Next, Invoke, is_running}
 use Rattle.rpc_items.specs.Drawn.{Asked, asked, asked_by, drawn, is_drawn, is_forgotten, is_cancelled}
-use Rattle.rpc_items.specs.Outcomes.{answer_to, response_to, first_of}
+use Rattle.rpc_items.specs.Outcomes.{answer_to}
 use Rattle.rpc_items.specs.Reports.{reports}
 use Rattle.rpc_items.specs.Waiting.{is_waiting}
 use Rattle.rpc_items.proofs.Settling.{same}
 use Rattle.rpc_items.proofs.Stable.{is_drawn_more, ended_more, answer_more}
 use Rattle.call_table.specs.declared.entry.Entry.{Entry}
 use Rattle.call_table.specs.declared.entry.Kept.TheVariants.{Waiting}
-use Rattle.call_table.specs.Table.{TableValue, empty, begun, new_entry}
+use Rattle.call_table.specs.Table.{TableValue, begun, new_entry}
 use Rattle.call_table.specs.Stands.{TableStands, kept_unless, kept_of, left_unless, left_of, entry_as, entry_after, entry_at, rest_by, can_come}
-use Rattle.call_table.proofs.Places.{get_before, get_last, three_ways}
-use Rattle.rpc_items.proofs.Reported.{reports_undrawn, undrawn_before}
-
--- a table with nothing in it
-
-none_drawn : (n : ℕ) → is_forgotten n [] ≡ true → (is_drawn n [] ≡ true) × (can_come true (answer_to n []) ≡ false)
-none_drawn n e = absurd (cc e)
-
-pub empty_stands : TableStands false empty []
-empty_stands = record { count = refl; each = λ i. refl; rest = refl; waiting = λ id. refl; forgotten = none_drawn; cancelled = λ n e. absurd (cc e) }
+use Rattle.rpc_items.proofs.Reported.{reports_undrawn}
+use Rattle.rpc_items.proofs.Undrawn.{call_same, unanswered_undrawn, not_drawn}
 
 -- no response comes later where none can come now
 
@@ -54,10 +47,6 @@ forgotten_then stopped table n item items s f =
 pub cancelled_then : (stopped : Bool) (table : TableValue) (n : ℕ) (item : RpcItem) (items : List RpcItem) → TableStands stopped table items → is_cancelled n items ≡ true → is_drawn n (item ∷ items) ≡ true
 cancelled_then stopped table n item items s c = is_drawn_more n item items (s.cancelled n c)
 
-append_nil : (xs : List Asked) → xs ++ [] ≡ xs
-append_nil [] = refl
-append_nil (a ∷ xs) = ap (λ (as_ : List Asked). a ∷ as_) (append_nil xs)
-
 -- with one more item all is kept of a request that was before
 
 pub record IsKept (n : ℕ) (item : RpcItem) (items : List RpcItem) : Type 0 where
@@ -79,7 +68,7 @@ pub record IsQuiet (item : RpcItem) (items : List RpcItem) : Type 0 where
   pub running : is_running (item ∷ items) ≡ is_running items
 
 pub asked_same : (item : RpcItem) (items : List RpcItem) → asked_by item ≡ [] → asked (item ∷ items) ≡ asked items
-asked_same item items e = ap (λ (as_ : List Asked). asked items ++ as_) e ∙ append_nil (asked items)
+asked_same item items e = ap (λ (as_ : List Asked). asked items ++ as_) e ∙ append-nil (asked items)
 
 pub entry_same : (place : ℕ) (item : RpcItem) (items : List RpcItem) → asked_by item ≡ [] → IsKept (place + 1) item items → entry_at place (item ∷ items) ≡ entry_at place items
 entry_same place item items none same = ap₂ (λ (entry : Asked → Entry) (as_ : List Asked). option_map entry (slice_get as_ place)) (kept_entry (place + 1) item items same) (asked_same item items none)
@@ -112,34 +101,7 @@ passed_with stopped table ids item items q w s = record {
 pub passed : (stopped : Bool) (table : TableValue) (item : RpcItem) (items : List RpcItem) → IsQuiet item items → ((id : Id) → is_waiting id (item ∷ items) ≡ is_waiting id items) → TableStands stopped table items → TableStands stopped table (item ∷ items)
 passed stopped table item items q w s = passed_with stopped table table.waiting item items q (λ id. s.waiting id ∙ sym (w id)) s
 
--- a call changes no answer
-
-pub call_same : (n : ℕ) (call : RpcCall) (items : List RpcItem) → answer_to n (Did call ∷ items) ≡ answer_to n items
-call_same n call items = same (is_running items && is_drawn n items) (answer_to n items)
-
--- nor does the end
-
-pub end_same : (n : ℕ) (cause : Cause) (items : List RpcItem) → answer_to n (End cause ∷ items) ≡ answer_to n items
-end_same n cause items = same (is_running items && is_drawn n items) (answer_to n items)
-
--- a request that isn't drawn has no answer and isn't forgotten
-
-no_drawing : (b c : Bool) (a o : Option Outcome) → c ≡ false → (if b && c then first_of a o else a) ≡ a
-no_drawing true true a o e = absurd (cc e)
-no_drawing true false a o e = refl
-no_drawing false c a o e = refl
-
-unanswered_undrawn : (n : ℕ) (items : List RpcItem) → is_drawn n items ≡ false → answer_to n items ≡ None
-unanswered_undrawn n [] e = refl
-unanswered_undrawn n (item ∷ items) e =
-    let before = undrawn_before n item items e in
-    no_drawing (is_running items) (is_drawn n items) (answer_to n items) (response_to n item) before ∙ unanswered_undrawn n items before
-
-not_drawn : (n d : ℕ) → d < n → (nat_lt 0 n && nat_le n d) ≡ false
-not_drawn n d l = elim (cases_Bool (nat_lt 0 n && nat_le n d)) [
-  | inl h ↦ absurd (let le = leb-true n d (and_parts (nat_lt 0 n) (nat_le n d) h).1 in omega (arith, le, l))
-  | inr h ↦ h
-]
+-- a request that isn't drawn is neither forgotten nor cancelled
 
 unforgotten_undrawn : (stopped : Bool) (table : TableValue) (n : ℕ) (items : List RpcItem) → TableStands stopped table items → is_drawn n items ≡ false → is_forgotten n items ≡ false
 unforgotten_undrawn stopped table n items s e = elim (cases_Bool (is_forgotten n items)) [

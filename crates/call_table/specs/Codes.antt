@@ -12,7 +12,7 @@ use Rattle.rpc_items.specs.declared.calls.Outcome.TheVariants.{Replied, Failed, 
 use Rattle.call_table.specs.declared.entry.Entry.{Entry}
 use Rattle.call_table.specs.declared.entry.Kept.{Kept}
 use Rattle.call_table.specs.declared.entry.Kept.TheVariants.{Waiting, Answered, Forgotten}
-use Rattle.call_table.specs.Table.{TableValue}
+use Rattle.call_table.specs.Table.{TableValue, kept_by}
 
 -- outcomes
 
@@ -49,12 +49,8 @@ kept_parts Waiting = (true, None)
 kept_parts (Answered outcome) = (true, Some outcome)
 kept_parts Forgotten = (false, None)
 
-abbrev answered_by : Option Outcome → Kept
-answered_by (Some outcome) = Answered outcome
-answered_by None = Waiting
-
 abbrev kept_back : Bool × Option Outcome → Kept
-kept_back p = if p.0 then answered_by p.1 else Forgotten
+kept_back p = if p.0 then kept_by p.1 else Forgotten
 
 pub kept_again : (k : Kept) → kept_back (kept_parts k) ≡ k
 kept_again Waiting = refl

@@ -47,11 +47,6 @@ Hears true id old new now (heard.Duplicate again) = (again ≡ id) × (new ≡ o
 Hears false id old new now heard.OutOfMemory = new ≡ old
 Hears waits id old new now answer = ⊥
 
--- a test is passed where nothing is refused, and else answers why
-abbrev pub Checks : {A : Type 0} → Option Refusal → Result A Refusal → Type 0
-Checks refused (Ok done) = refused ≡ None
-Checks refused (Err r) = refused ≡ Some r
-
 -- whether there is a request, and it was cancelled here
 abbrev pub was_cancelled : Option Entry → Bool
 was_cancelled (Some entry) = entry.cancelled

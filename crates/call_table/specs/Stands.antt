@@ -19,13 +19,8 @@ use Rattle.call_table.specs.declared.answers.Settled.{Settled}
 use Rattle.call_table.specs.declared.answers.Settled.TheVariants.{First, Stray}
 use Rattle.call_table.specs.declared.entry.Entry.{Entry}
 use Rattle.call_table.specs.declared.entry.Kept.{Kept}
-use Rattle.call_table.specs.declared.entry.Kept.TheVariants.{Waiting, Answered, Forgotten}
-use Rattle.call_table.specs.Table.{TableValue, waits_in}
-
--- an answer as it is kept
-abbrev pub kept_by : Option Outcome → Kept
-kept_by (Some outcome) = Answered outcome
-kept_by None = Waiting
+use Rattle.call_table.specs.declared.entry.Kept.TheVariants.{Forgotten}
+use Rattle.call_table.specs.Table.{TableValue, kept_by, waits_in}
 
 -- what is kept of a request, forgotten or not
 abbrev pub kept_unless : (forgotten : Bool) → Option Outcome → Kept

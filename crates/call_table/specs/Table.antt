@@ -1,6 +1,8 @@
 -- What a table keeps, and what its calls make of it.
-use Rattle.std.specs.Prelude.{ℕ, zero, suc, ◌-◌, pos, List, [], ◌∷◌, ◌++◌, Bool, true, false, not, ◌&&◌, drop, filter, is_none, if◌then◌else◌, Option, Some, None}
+use Rattle.std.specs.Prelude.{ℕ, ◌-◌, pos, List, [], ◌∷◌, ◌++◌, Bool, true, false, not, ◌&&◌, drop, filter, is_none, if◌then◌else◌, Option, Some, None}
 use Rattle.std.specs.List.{list_any}
+use Rattle.wire_base.specs.Lists.{changed_at}
+use Rattle.wire_base.specs.Options.{or_else}
 use Rattle.wire_base.specs.Tree.{Tree}
 use Rattle.wire_base.specs.declared.text.Id.{Id}
 use Rattle.wire_base.specs.declared.text.Id.TheVariants.{Number}
@@ -27,6 +29,11 @@ pub record TableValue : Type 0 where
 -- a table with nothing in it
 abbrev pub empty : TableValue
 empty = record { requests = []; rest = None; waiting = [] }
+
+-- an answer as it is kept
+abbrev pub kept_by : Option Outcome → Kept
+kept_by (Some outcome) = Answered outcome
+kept_by None = Waiting
 
 -- whether no response came
 abbrev pub is_waiting_kept : Kept → Bool
@@ -86,12 +93,6 @@ new_entry expect progress = record { expect = expect; progress = progress; kept 
 -- one more request
 abbrev pub begun : Expect → (progress : Bool) → TableValue → TableValue
 begun expect progress table = record table { requests = table.requests ++ (new_entry expect progress ∷ []) }
-
--- the requests, where the one at this place, from 0, becomes another
-abbrev pub changed_at : ℕ → (Entry → Entry) → List Entry → List Entry
-changed_at place change [] = []
-changed_at zero change (entry ∷ entries) = change entry ∷ entries
-changed_at (suc place) change (entry ∷ entries) = entry ∷ changed_at place change entries
 
 -- request n becomes another
 abbrev pub with_changed : ℕ → (Entry → Entry) → TableValue → TableValue
@@ -186,11 +187,6 @@ heard id table = record table { waiting = table.waiting ++ (id ∷ []) }
 abbrev pub answered : Id → TableValue → TableValue
 answered id table = record table { waiting = filter (λ waiting. not (same_id waiting id)) table.waiting }
 
--- what there is, or this where there is nothing
-abbrev pub unless_some : Option Outcome → Outcome → Option Outcome
-unless_some (Some outcome) otherwise = Some outcome
-unless_some None otherwise = Some otherwise
-
 -- requests that have no response get none any more, and this becomes of them
 abbrev pub over : Outcome → TableValue → TableValue
-over outcome table = record table { rest = unless_some table.rest outcome }
+over outcome table = record table { rest = or_else table.rest (Some outcome) }

@@ -1,5 +1,6 @@
 //! The table and its calls.
 
+ghost use Rattle.rpc_items.specs.Checks.{Checks};
 ghost use Rattle.std.specs.Prelude.{◌≡◌, ◌<◌, ◌≤◌, ◌+◌, ◌∷◌, [], filter, false, length, not, slice_get, true, Bool, List, ℕ, Some, OnErr, OnOk};
 ghost use Rattle.std.specs.List.{list_any};
 ghost use Rattle.std.specs.Option.{option_copied};
@@ -16,20 +17,20 @@ ghost use Rattle.rpc_items.specs.declared.messages.Params.{Params};
 ghost use Rattle.wire_base.specs.declared.state.Cause.{Cause};
 ghost use Rattle.rpc_items.specs.Outcomes.{is_known, outcome};
 ghost use Rattle.call_table.specs.declared.answers.Heard.TheVariants as answers;
-ghost use Rattle.call_table.specs.Replies.{Checks, Does, Draws, Hears, KeepsReport, Takes, cancel_refusal, full_refusal, take_refusal, unless_there};
+ghost use Rattle.call_table.specs.Replies.{Does, Draws, Hears, KeepsReport, Takes, cancel_refusal, full_refusal, take_refusal, unless_there};
 ghost use Rattle.call_table.specs.Stands.{IsReport, TableStands, StandsDrawn, response_of, settling};
 ghost use Rattle.call_table.specs.Table.{answered, begun, empty, heard, left_in, look_in, named_in, over, reported_in, settled, settled_in, shown, waits_in, with_cancelled, with_forgotten, with_kept, with_report, with_taken};
 
 use crate::answers::{Heard, Look, Settled};
 use crate::entry::{Entry, Kept};
 use crate::reports::Reports;
-use rpc_items::{Expect, Outcome};
+use rpc_items::{Expect, MOST_DRAWN, Outcome};
 use std::alloc::Global;
 use std::marker::Model;
 use wire_base::{CallFault, Datum, Id, OutOfMemory, Refusal};
 
 /// The most requests that are drawn.
-const MOST_REQUESTS: usize = 4_294_967_295;
+const MOST_REQUESTS: usize = MOST_DRAWN as usize;
 
 /// The requests of one connection.
 #[derive(Drop)]

@@ -1,5 +1,6 @@
 -- What always holds of a channel's counts.
-use Rattle.std.specs.Prelude.{◌≡◌, ◌≤◌, ◌+◌, length, true, false}
+use Rattle.std.specs.Prelude.{◌≡◌, ◌≤◌, ◌<◌, ◌+◌, length, true, false}
+use Rattle.wire_base.specs.declared.limits.TheConstants.{COUNT_LIMIT}
 use Rattle.mux_items.specs.Limits.{greatest_window, most_bytes}
 use Rattle.mux_state.specs.State.{ChannelState}
 
@@ -11,7 +12,7 @@ pub record IsSound (s : ChannelState) : Type 0 where
   pub written_within : s.written ≤ most_bytes
   pub handed_within : s.handed + length s.unread ≤ s.taken
   pub acknowledged_within : s.acknowledged ≤ s.emitted
-  pub granted_within : s.granted ≤ 0x7fffffffffffffff + s.acknowledged
+  pub granted_within : s.granted < COUNT_LIMIT + s.acknowledged
   pub waits_unsent : s.accepted ≡ false → s.emitted ≡ 0
   pub own_waits : s.accepted ≡ false → s.own ≡ true → s.granted ≡ 0
   pub peer_waits : s.accepted ≡ false → s.own ≡ false → s.window ≡ 0

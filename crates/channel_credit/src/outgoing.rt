@@ -1,6 +1,6 @@
 //! What an end writes on a channel.
 
-ghost use Rattle.std.specs.Prelude.{◌≡◌, ◌≤◌, ◌+◌, ◌++◌, [], drop, false, length, min, take, true, ◌-◌, OnErr, OnOk, if◌then◌else◌};
+ghost use Rattle.std.specs.Prelude.{◌≡◌, ◌≤◌, ◌+◌, ◌++◌, [], drop, false, length, min, take, ◌-◌, OnErr, OnOk};
 ghost use Rattle.mux_items.specs.Limits.{most_bytes};
 
 use crate::queue::ByteQueue;

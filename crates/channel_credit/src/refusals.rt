@@ -1,8 +1,7 @@
 //! Why a call or a frame of a channel is refused.
 
-ghost use Rattle.std.specs.Prelude.{◌≡◌, ◌||◌, not, ℕ, List, length, true, false, None};
+ghost use Rattle.std.specs.Prelude.{◌≡◌, ◌||◌, not, ℕ, List, length, None};
 ghost use Rattle.mux_items.specs.Bodies.{Content};
-ghost use Rattle.mux_items.specs.Limits.{most_bytes, most_windows};
 ghost use Rattle.mux_items.specs.Refusals.{is_bad_window};
 ghost use Rattle.mux_state.specs.Tests.{accept_test, accepting_test, comes_early, heeded_test, open_test, read_test, waits_here, write_test, writing_test};
 

@@ -2,7 +2,7 @@
 
 use crate::words::{bytes, first, parted};
 use any_codec::AnyCodec;
-use frame_reader::{FrameReader, Next};
+use frame_reader::{FrameReader, NextFrame};
 use std::alloc::Global;
 use std::process::Abort;
 use std::test::Fail;
@@ -24,7 +24,7 @@ fn feed(reader: &mut Reader, piece: &[u8]) -> bool {
     reader.fed() < MOST && (piece.len() as u64) < MOST && reader.feed(piece).is_ok()
 }
 
-fn next(reader: &mut Reader) -> Next {
+fn next(reader: &mut Reader) -> NextFrame {
     reader.next()
 }
 
@@ -32,12 +32,12 @@ fn word(alloc: Global, word: &str) -> Result<String, Fail> {
     Ok(String::from_str(alloc, word)?)
 }
 
-fn of_next(alloc: Global, next: &Next) -> Result<String, Fail> {
+fn of_next(alloc: Global, next: &NextFrame) -> Result<String, Fail> {
     match next {
-        Next::Frame(place, frame) => Ok(format!(in alloc; "{} {frame:?}; ", place.0)?),
-        Next::Short => word(alloc, "short"),
-        Next::Refused(place, reason) => Ok(format!(in alloc; "{} {reason:?}", place.0)?),
-        Next::OutOfMemory => word(alloc, "out of memory"),
+        NextFrame::Frame(place, frame) => Ok(format!(in alloc; "{} {frame:?}; ", place.0)?),
+        NextFrame::Short => word(alloc, "short"),
+        NextFrame::Refused(place, reason) => Ok(format!(in alloc; "{} {reason:?}", place.0)?),
+        NextFrame::OutOfMemory => word(alloc, "out of memory"),
     }
 }
 
@@ -46,9 +46,9 @@ fn nexts(alloc: Global, reader: &mut Reader) -> Result<String, Fail> {
 }
 
 /// Tells the next frame, if one is whole.
-fn push_frame(alloc: Global, told: &mut String, next: &Next) -> Result<(), Fail> {
+fn push_frame(alloc: Global, told: &mut String, next: &NextFrame) -> Result<(), Fail> {
     match next {
-        Next::Frame(_, _) => told.push_str(of_next(alloc, next)?.as_str())?,
+        NextFrame::Frame(_, _) => told.push_str(of_next(alloc, next)?.as_str())?,
         _ => {}
     }
     Ok(())

@@ -1,7 +1,6 @@
 //! What steps answer, and bytes, as text.
 
-use endpoint_run::{DuoAnswer, EventList, Reply};
-use mux_items::Tally;
+use duo_world::{DuoAnswer, EventList, Reply, Tally};
 use std::alloc::Global;
 use std::test::Fail;
 

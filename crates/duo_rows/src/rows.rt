@@ -2,8 +2,7 @@
 
 use crate::answers::{of_answer, of_bytes, of_tally, word};
 use crate::steps::{first, key_of, side_of, step_of};
-use duo_world::Duo;
-use endpoint_run::{DuoAnswer, Side, Step};
+use duo_world::{Duo, DuoAnswer, Side, Step};
 use std::alloc::Global;
 use std::process::Abort;
 use std::test::Fail;

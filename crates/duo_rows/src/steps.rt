@@ -1,8 +1,9 @@
 //! The steps that words stand for.
 
-use endpoint_run::{Call, Side, Step};
-use mux_items::ChannelKey;
-use rpc_end::{Answer, Arguments, Encoding, Expect, Framing, HandleKey, Terms};
+use duo_world::{
+    Answer, Arguments, Call, ChannelKey, Encoding, Expect, Framing, HandleKey, MuxCall, Side, Step,
+    Terms,
+};
 use std::alloc::Global;
 use std::test::Fail;
 use wire_base::{Blob, Datum, Id, Node, Text, Whole};
@@ -39,15 +40,15 @@ pub fn key_of(side: Side, word: &str) -> ChannelKey {
     }
 }
 
-fn offers(alloc: Global, words: &str) -> Result<mux_items::Call, Fail> {
+fn offers(alloc: Global, words: &str) -> Result<MuxCall, Fail> {
     let (name, word) = first(words);
     let name = Text::from_str(alloc, name)?;
-    Ok(mux_items::Call::Offer(name, size(word)))
+    Ok(MuxCall::Offer(name, size(word)))
 }
 
-fn writes(alloc: Global, key: ChannelKey, bytes: &[u8]) -> Result<mux_items::Call, Fail> {
+fn writes(alloc: Global, key: ChannelKey, bytes: &[u8]) -> Result<MuxCall, Fail> {
     let bytes = Blob::from_bytes(alloc, bytes)?;
-    Ok(mux_items::Call::Write(key, bytes))
+    Ok(MuxCall::Write(key, bytes))
 }
 
 /// Adds so many bytes `z`.
@@ -59,26 +60,21 @@ pub fn fill(bytes: &mut Vec<u8>, count: usize) -> Result<(), Fail> {
 }
 
 /// Writes so many bytes `z`.
-fn fills(alloc: Global, key: ChannelKey, word: &str) -> Result<mux_items::Call, Fail> {
+fn fills(alloc: Global, key: ChannelKey, word: &str) -> Result<MuxCall, Fail> {
     let mut bytes = Vec::new(alloc);
     fill(&mut bytes, size(word) as usize)?;
     writes(alloc, key, &bytes)
 }
 
 /// A call of the multiplexing end on a channel.
-fn mux_call_of(
-    alloc: Global,
-    key: ChannelKey,
-    name: &str,
-    words: &str,
-) -> Result<mux_items::Call, Fail> {
+fn mux_call_of(alloc: Global, key: ChannelKey, name: &str, words: &str) -> Result<MuxCall, Fail> {
     match name {
-        "accepts" => Ok(mux_items::Call::Accept(key, size(words))),
+        "accepts" => Ok(MuxCall::Accept(key, size(words))),
         "writes" => writes(alloc, key, words.as_bytes()),
         "fills" => fills(alloc, key, words),
-        "reads" => Ok(mux_items::Call::Read(key, size(words))),
-        "completes" => Ok(mux_items::Call::Complete(key)),
-        "terminates" => Ok(mux_items::Call::Terminate(key)),
+        "reads" => Ok(MuxCall::Read(key, size(words))),
+        "completes" => Ok(MuxCall::Complete(key)),
+        "terminates" => Ok(MuxCall::Terminate(key)),
         _ => Err(Fail::new("no such call")),
     }
 }

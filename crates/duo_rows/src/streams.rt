@@ -3,8 +3,7 @@
 use crate::channels::CREDIT;
 use crate::rows::{LIVE, behind, emits, flight, happens, lives, make, parted, world};
 use crate::steps::{ALL, fill, first, side_of, step_of};
-use duo_world::Duo;
-use endpoint_run::{Side, Step, StepList};
+use duo_world::{Duo, Side, Step, StepList};
 use std::alloc::Global;
 use std::process::Abort;
 use std::test::Fail;

@@ -4,6 +4,7 @@ use Rattle.std.proofs.Common.{◌≡◌, ℕ, ◌+◌, List, [], ◌∷◌, ◌+
 use Rattle.std.proofs.lemmas.Bool.{or_right}
 use Rattle.wire_base.specs.declared.frame.Version.{Version}
 use Rattle.wire_base.specs.declared.state.Cause.{Cause}
+use Rattle.wire_base.specs.States.{state_by, is_running_state}
 use Rattle.std.specs.Str.{bytes_eq}
 use Rattle.mux_items.specs.declared.call.Call.{Call}
 use Rattle.mux_items.specs.declared.call.Call.TheVariants as call
@@ -18,7 +19,6 @@ use Rattle.mux_items.specs.Parties.{party_by}
 use Rattle.mux_items.specs.Refusals.{is_ready}
 use Rattle.mux_run.specs.Run.{RunSide, SideTerms, greeting_size, next_frames, place_after}
 use Rattle.mux_end.specs.Arrivals.{Arrival, arrival}
-use Rattle.mux_end.specs.Stands.{state_by}
 use Rattle.rpc_items.specs.Events as rpc
 use Rattle.rpc_items.specs.Items as rpc_item
 use Rattle.rpc_items.specs.Saying.{said}
@@ -43,7 +43,7 @@ use Rattle.endpoint.specs.Value.{EndpointValue}
 use Rattle.endpoint.specs.declared.step.EndStep.{EndStep}
 use Rattle.endpoint.specs.declared.step.EndStep.TheVariants as step
 use Rattle.duo_world.specs.Holding.{place_of, rest_of, StandsForSide}
-use Rattle.duo_world.specs.Settling.{is_running_state, side_with, IsMidStep, IsSettled}
+use Rattle.duo_world.specs.Settling.{side_with, IsMidStep, IsSettled}
 use Rattle.duo_world.proofs.Coming.{Comes, waits, greets, applies, refuses, comes}
 use Rattle.duo_world.proofs.Ranging.{OwnInRange}
 use Rattle.duo_world.proofs.Settling.{given_side, MayApply, place_ready, place_unready, next_key_in_range, takes_frame, still_ready, place_got, rest_moved}

@@ -9,6 +9,7 @@ use Rattle.wire_base.specs.declared.state.Cause.{Cause}
 use Rattle.wire_base.specs.declared.state.Cause.TheVariants as cause
 use Rattle.wire_base.specs.declared.state.EndState.{EndState}
 use Rattle.wire_base.specs.declared.state.EndState.TheVariants as state
+use Rattle.wire_base.specs.States.{is_running_state}
 use Rattle.mux_items.specs.Bodies.{ChannelFrame, flip, frame_texts}
 use Rattle.mux_items.specs.Items.{Item, End, is_running, ended}
 use Rattle.mux_items.specs.Due.{sent, got}
@@ -41,7 +42,7 @@ use Rattle.endpoint_run.proofs.Growing.{side_newer}
 use Rattle.endpoint_run.proofs.Midway.{midway_lies, all_is_applied}
 use Rattle.endpoint_run.proofs.Telling.{events_none, events_pushed}
 use Rattle.duo_world.specs.Holding.{place_of, rest_of, StandsForSide, StandForSides}
-use Rattle.duo_world.specs.Settling.{is_running_state, side_with, IsMidStep, IsSettled}
+use Rattle.duo_world.specs.Settling.{side_with, IsMidStep, IsSettled}
 use Rattle.duo_world.specs.Stepping.{IsBetweenSteps, StepsAt}
 use Rattle.duo_world.proofs.Settling.{given_side}
 use Rattle.duo_world.proofs.Standing.{stands_more}

@@ -7,7 +7,7 @@ use Rattle.frame_text.specs.Reading.{front, plain_at, field_at, packed_at, token
 use Rattle.frame_text.proofs.Laws.{front_cut, every_front-text}
 use Rattle.std.proofs.lemmas.List.{append-nil}
 use Rattle.mux_items.specs.Bodies.{ChannelFrame, frame_of, frame_text, frame_texts}
-use Rattle.mux_run.specs.Cuts.{IsCut, BeginsFirst}
+use Rattle.mux_run.proofs.Cuts.{IsCut, BeginsFirst}
 use Rattle.mux_run.specs.Run.{SideTerms}
 use Rattle.duo_world.proofs.Frames.{IsWritable, AreWritable}
 

@@ -55,7 +55,7 @@ greets_same w d items y n e h same =
     ∙ (ap (λ own. handshake w.version own (hello w.version w.peer ++ more)) is
     ∙ (same_hello w.version w.peer more (not_three w.version items e) n.peer ∙ ap (λ k. Broken (greeting_size w - k) reason.SameNonce) (sym n.peer)))
 
--- less than the hello is the beginning of one
+-- less than the hello is too few bytes to tell
 pub greets_short : (w : SideTerms) (d : ℕ) (items : List Item) (y : RunSide) → HaveNonces w → is_ready w.version items ≡ false → d < greeting_size w → handshake w.version w.own (rest_of w (given_side items d) y) ≡ Short
 greets_short w d items y n e h =
     ap (handshake w.version w.own) (unapplied w d items y e ∙ stream_short w d y (omega arith))

@@ -11,7 +11,7 @@ use Rattle.mux_items.specs.Items.{Item, Got, Rejected, greeting, party_of}
 use Rattle.mux_items.specs.Due.{sent, got}
 use Rattle.mux_items.specs.Refusals.{is_ready}
 use Rattle.mux_items.specs.Applying.{item_of_frame, lacks_room}
-use Rattle.mux_run.specs.Cuts.{IsCut}
+use Rattle.mux_run.proofs.Cuts.{IsCut}
 use Rattle.mux_run.specs.Fed.{LieWithin}
 use Rattle.mux_run.specs.Run.{RunSide, SideTerms, turned, out, greeting_size, whole_frames, next_frames, place_after}
 use Rattle.mux_run.proofs.Fed.{ready_same}

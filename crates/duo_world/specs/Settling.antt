@@ -1,7 +1,5 @@
 -- An end that applies what is whole of the bytes that it was given.
-use Rattle.std.specs.Prelude.{◌≡◌, ◌≤◌, ℕ, List, length, Bool, true, false}
-use Rattle.wire_base.specs.declared.state.EndState.{EndState}
-use Rattle.wire_base.specs.declared.state.EndState.TheVariants as state
+use Rattle.std.specs.Prelude.{◌≡◌, ◌≤◌, ℕ, List, length}
 use Rattle.mux_run.specs.Run.{RunSide, SideTerms, turned}
 use Rattle.endpoint_items.specs.Items.{EndItem}
 use Rattle.endpoint.specs.Value.{EndpointValue}
@@ -11,12 +9,6 @@ use Rattle.endpoint_run.specs.Midway.{IsMidway}
 use Rattle.endpoint_run.specs.Run.{EndSide}
 use Rattle.duo_world.specs.Ranges.{AreInRange}
 use Rattle.duo_world.specs.Holding.{StandsForSide, HaveNonces}
-
--- whether an end in this state runs
-abbrev pub is_running_state : EndState → Bool
-is_running_state state.Running = true
-is_running_state (state.Ended cause) = false
-is_running_state state.Stopped = false
 
 -- a side with these items, to which so many bytes were delivered
 abbrev pub side_with : List EndItem → (delivered : ℕ) → EndSide

@@ -63,8 +63,9 @@ abbrev pub EmitsOn : Side → Terms → (w w' : EndWorld) → (a a' b b' : Endpo
 EmitsOn A terms w w' a a' b b' = Emits (terms_at_a terms) w.a w'.a a a' b b'
 EmitsOn B terms w w' a a' b b' = Emits (terms_at_b terms) w.b w'.b b b' a a'
 
--- what holds of the run of the steps that a Duo made: at every moment it is safe, keeps its credit, connections exchange
--- messages in order and handles rest after their end, and at its end nothing whole is left to either end
+-- what holds of the run of the steps that a Duo made: at every moment it is safe, keeps its credit and has one outcome for
+-- each request, its connections exchange messages and the pages of sequences in order and answer a request once at most, and
+-- handles rest after their end; at its end nothing whole is left to either side
 pub record RunHolds (terms : Terms) (steps : List Step) : Type 0 where
   pub safe : IsSafeRun terms (made_steps steps)
   pub exchange : IsExchangeRun terms (made_steps steps)

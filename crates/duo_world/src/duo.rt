@@ -39,9 +39,11 @@ impl Model for Duo {
 
     ghost coded = { Prim.hlevel (codes, coded_table, coded_sequences, coded_followed, coded_made, coded_held, step.the_row.coded) };
 
-    ghost view = { λ d. record { terms = record { version = d.version; nonce_a = d.nonce_a; nonce_b = d.nonce_b }; a = d.a; b = d.b; steps = d.steps; failed = d.failed } };
+    ghost use Rattle.duo_world.specs.Parts.{state_in};
 
-    ghost invariant = { λ d. DuoHolds (record { terms = record { version = d.version; nonce_a = d.nonce_a; nonce_b = d.nonce_b }; a = d.a; b = d.b; steps = d.steps; failed = d.failed }) };
+    ghost view = { state_in };
+
+    ghost invariant = { λ d. DuoHolds (state_in d) };
 }
 
 impl Duo {

@@ -1,6 +1,6 @@
 //! What a step does to the two ends.
 
-ghost use Rattle.duo_world.specs.Settling.{IsMidStep, IsSettled, is_running_state, side_with};
+ghost use Rattle.duo_world.specs.Settling.{IsMidStep, IsSettled, side_with};
 ghost use Rattle.duo_world.specs.Holding.{StandsForSide};
 ghost use Rattle.duo_world.specs.Ranges.{IsCallInRange, IsMuxCallInRange};
 ghost use Rattle.duo_world.specs.Stepping.{Calls, IsBetweenSteps, StepsAt, StepsIn};
@@ -13,6 +13,7 @@ ghost use Rattle.endpoint_run.specs.Run.{EndSide, EndWorld};
 ghost use Rattle.mux_run.specs.Run.{RunSide, SideTerms, Terms, terms_at_a};
 ghost use Rattle.mux_run.specs.declared.steps.Side.{Side};
 ghost use Rattle.std.specs.Prelude.{◌≡◌, ℕ, List, OnOk, IfOk, is_none};
+ghost use Rattle.wire_base.specs.States.{is_running_state};
 
 use endpoint::{EndStep, Endpoint};
 use endpoint_run::{Call, DuoAnswer, EventList, Reply, Side, SideEvent, Step};

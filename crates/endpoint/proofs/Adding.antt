@@ -17,6 +17,7 @@ use Rattle.wire_base.specs.declared.frame.Version.{Version}
 use Rattle.wire_base.specs.declared.state.Cause.{Cause}
 use Rattle.wire_base.specs.declared.state.EndState.{EndState}
 use Rattle.wire_base.specs.declared.state.EndState.TheVariants as state
+use Rattle.wire_base.specs.States.{state_by}
 use Rattle.mux_items.specs.declared.channel.ChannelKey.{ChannelKey}
 use Rattle.mux_items.specs.Applying.{Allowed}
 use Rattle.mux_items.specs.Bodies.{same_key}
@@ -29,7 +30,7 @@ use Rattle.mux_end.specs.Replies as mux
 use Rattle.mux_end.specs.Stands.{MuxStands}
 use Rattle.rpc_end.specs.declared.terms.Terms.{Terms}
 use Rattle.rpc_end.specs.Ends.{if_running, with_end}
-use Rattle.rpc_end.specs.Stands.{RpcValue, state_by}
+use Rattle.rpc_end.specs.Stands.{RpcValue}
 use Rattle.endpoint_items.specs.Items.{EndItem, Mux, terms_of, attached_keys}
 use Rattle.endpoint_items.specs.Connections.{Connection, is_attached, end_for, end_by}
 use Rattle.endpoint_items.specs.Following.{followed, follow_ups}

@@ -324,9 +324,6 @@ closes_at mux now end xs stopped place x attached why items at rest same is move
     within here s runs
 
 -- whether a message lacks room
-pub room_left : (v : Version) (c : ChannelKey) (items : List EndItem) (spent : Bool) → spent ≡ is_spent_on c (mux_of v items) → spent ≡ false → false ≡ lacks_room v c items
-room_left v c items spent e none = ap (λ b. b && has_message v c items) (sym none ∙ e)
-
 pub room_lacks : (v : Version) (end : RpcValue) (c : ChannelKey) (items : List EndItem) (spent : Bool) (result : Result Bool OutOfMemory) → ConnectionStands (Some end) (rpc_of v c items) (terms_of c items) (consumed c items) (rest_of v c items)
     → is_attached (rpc_of v c items) ≡ true → spent ≡ is_spent_on c (mux_of v items) → spent ≡ true
     → ((ys : List rpc.RpcItem) (n : ℕ) (bs : List ℕ) → RpcStands end ys n bs → IfOk result (λ has. has ≡ (rpc.is_running ys && begins_message end.terms bs))) → IfOk result (λ lacks. lacks ≡ lacks_room v c items)

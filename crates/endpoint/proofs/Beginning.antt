@@ -14,6 +14,8 @@ use Rattle.wire_base.specs.declared.state.Cause.TheVariants as cause
 use Rattle.wire_base.specs.declared.out_of_memory.OutOfMemory.{OutOfMemory}
 use Rattle.wire_base.specs.declared.state.EndState.{EndState}
 use Rattle.wire_base.specs.declared.state.EndState.TheVariants as state
+use Rattle.wire_base.specs.Options.{or_else}
+use Rattle.wire_base.specs.States.{state_by}
 use Rattle.mux_items.specs.declared.call.Call.TheVariants as call
 use Rattle.mux_items.specs.declared.channel.ChannelKey.{ChannelKey}
 use Rattle.mux_items.specs.declared.channel.ChannelView.{ChannelView}
@@ -25,13 +27,12 @@ use Rattle.mux_items.specs.Items.{Item, ended}
 use Rattle.mux_items.specs.Kept.{is_kept}
 use Rattle.mux_items.specs.Limits.{most_bytes}
 use Rattle.mux_items.specs.Lists.{emitted, granted, has_completed, is_accepted, is_completed, is_dropped, is_terminated_by_peer, handed, phase_of, taken, termination_emitted, unread, unread_count}
-use Rattle.mux_items.specs.Refusals.{or_else}
 use Rattle.mux_items.specs.Due.{sent}
 use Rattle.mux_items.specs.Views.{insert_key, pending_count, view_of}
 use Rattle.mux_items.proofs.Keys.{same_key_refl}
 use Rattle.mux_items.proofs.Texts.{frame_texts-append}
 use Rattle.mux_items.proofs.Window.{length-unread}
-use Rattle.mux_end.specs.Stands.{EndValue, MuxStands, state_by}
+use Rattle.mux_end.specs.Stands.{EndValue, MuxStands}
 use Rattle.rpc_items.specs.Items as rpc
 use Rattle.rpc_end.specs.Replies as rpc_end
 use Rattle.rpc_end.specs.declared.terms.Terms.{Terms}

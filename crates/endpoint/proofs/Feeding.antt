@@ -1,6 +1,6 @@
 -- What an end with connections makes of a piece that is fed.
-use Rattle.std.specs.Prelude.{◌+◌, ◌≤◌, ◌++◌, length, Bool, true, false, Option, Some, None, Result, Ok, Err}
-use Rattle.std.proofs.Common.{◌≡◌, ℕ, List, refl, sym, ◌∙◌, ap, subst, arith, length-append}
+use Rattle.std.specs.Prelude.{◌+◌, ◌≤◌, ◌++◌, length, Bool, true, false, None, Result, Ok, Err}
+use Rattle.std.proofs.Common.{◌≡◌, ℕ, List, refl, sym, ap, subst, arith, length-append}
 use Rattle.std.proofs.lemmas.Bool.{ltb-false}
 use Rattle.wire_base.specs.declared.out_of_memory.OutOfMemory.{OutOfMemory}
 use Rattle.wire_base.specs.declared.state.Cause.{Cause}
@@ -10,7 +10,7 @@ use Rattle.wire_base.specs.declared.state.EndState.TheVariants as state
 use Rattle.mux_items.specs.Items.{Item, ended}
 use Rattle.mux_items.specs.Limits.{most_bytes}
 use Rattle.mux_end.specs.Replies as mux
-use Rattle.mux_end.specs.Stands.{EndValue, state_by}
+use Rattle.mux_end.specs.Stands.{EndValue}
 use Rattle.endpoint_items.specs.Items.{EndItem}
 use Rattle.endpoint_items.specs.Layers.{mux_of}
 use Rattle.endpoint.specs.declared.attached.Attached.{Attached}
@@ -21,15 +21,6 @@ use Rattle.endpoint.specs.Value.{EndpointValue, value_in}
 use Rattle.endpoint.proofs.Adding.{ends_all, stands_by}
 use Rattle.endpoint.proofs.Running.{running_state}
 use Rattle.endpoint.proofs.Sending.{unstopped}
-
--- an end that doesn't run keeps nothing
-pub idle_answers : (old : EndpointValue) (items : List EndItem) (at : ℕ) (rest piece : List ℕ) (spent : Bool) (told : EndState) → Stands old items at rest → told ≡ old.state → (told ≡ state.Running → ⊥)
-    → FeedAnswers old old items at rest piece (ended (mux_of old.mux.version items)) spent (Ok told)
-idle_answers old items at rest piece spent told s is idle = by (ended (mux_of old.mux.version items)) (is ∙ (s.state ∙ s.mux.state))
-  where
-    by : (why : Option Cause) → told ≡ state_by why → FeedAnswers old old items at rest piece why spent (Ok told)
-    by None e = absurd (idle e)
-    by (Some why) e = (e, refl)
 
 module _ (m now : EndValue) (xs : List Attached) (stopped : Bool) (items : List EndItem) (at : ℕ) (rest piece : List ℕ) (s : Stands (value_in m xs stopped) items at rest) (runs : ended (mux_of m.version items) ≡ None) where
   abbrev old : EndpointValue

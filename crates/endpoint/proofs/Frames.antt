@@ -8,6 +8,7 @@ use Rattle.wire_base.specs.declared.state.Cause.{Cause}
 use Rattle.wire_base.specs.declared.state.Cause.TheVariants as cause
 use Rattle.wire_base.specs.declared.state.EndState.{EndState}
 use Rattle.wire_base.specs.declared.state.EndState.TheVariants as state
+use Rattle.wire_base.specs.States.{state_by}
 use Rattle.mux_items.specs.declared.channel.ChannelKey.{ChannelKey}
 use Rattle.mux_items.specs.Bodies.{Content, ContentWritingCompleted, ChannelTerminated, same_key}
 use Rattle.mux_items.specs.Calls.{called}
@@ -19,7 +20,7 @@ use Rattle.mux_items.proofs.Taking.{read_bytes-is}
 use Rattle.rpc_items.specs.Items as rpc
 use Rattle.rpc_end.specs.declared.terms.Terms.{Terms}
 use Rattle.rpc_end.specs.Replies as rpc_end
-use Rattle.rpc_end.specs.Stands.{RpcValue, RpcStands, state_by}
+use Rattle.rpc_end.specs.Stands.{RpcValue, RpcStands}
 use Rattle.endpoint_items.specs.Allowed.{used_in}
 use Rattle.endpoint_items.specs.Bytes.{consumed, joined, is_read_on, rest_of}
 use Rattle.endpoint_items.specs.Calls.{is_in_use}

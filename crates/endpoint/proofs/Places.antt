@@ -1,5 +1,5 @@
 -- Where the connection of a channel stands in the list of an end.
-use Rattle.std.specs.Prelude.{ℕ, ◌<◌, ◌≤◌, zero, suc, map, take, drop, ◌++◌, List, [], ◌∷◌, length, Bool, true, false, nat_lt, if◌then◌else◌, option_map, Option, Some, None}
+use Rattle.std.specs.Prelude.{ℕ, ◌<◌, ◌≤◌, zero, suc, map, List, [], ◌∷◌, length, Bool, true, false, nat_lt, if◌then◌else◌, option_map, Option, Some, None}
 use Rattle.std.specs.List.{position, position_or_len}
 use Rattle.std.proofs.Common.{◌≡◌, inl, inr, refl, sym, ◌∙◌, ap, arith, get_or, set}
 use Rattle.std.proofs.lemmas.Bool.{cases_Bool, lt-ltb, ltb-false}
@@ -210,13 +210,6 @@ each_found f d (x ∷ xs) = elim (cases_Bool (same_key d x.key)) [
 pub each_keys : (f : RpcValue → RpcValue) (xs : List Attached) → keys_of (map (λ (x : Attached). record x { end = f x.end }) xs) ≡ keys_of xs
 each_keys f [] = refl
 each_keys f (x ∷ xs) = ap (λ ks. x.key ∷ ks) (each_keys f xs)
-
--- all connections of a list are changed, those before this place one by one
-pub changed_all : {A : Type 0} (f : A → A) (xs : List A) (i : ℕ) → length xs ≤ i → take i xs ++ map f (drop i xs) ≡ xs
-changed_all f [] zero past = refl
-changed_all f [] (suc i) past = refl
-changed_all f (x ∷ xs) zero past = absurd (omega arith)
-changed_all f (x ∷ xs) (suc i) past = ap (λ ys. x ∷ ys) (changed_all f xs i (omega arith))
 
 -- a connection takes its place
 

@@ -13,12 +13,13 @@ use Rattle.wire_base.specs.declared.refusal.Refusal.TheVariants as refusal
 use Rattle.wire_base.specs.declared.state.Cause.{Cause}
 use Rattle.wire_base.specs.declared.state.EndState.{EndState}
 use Rattle.wire_base.specs.declared.state.EndState.TheVariants as state
+use Rattle.wire_base.specs.Options.{or_else}
 use Rattle.message_body.specs.Written.{encoder}
 use Rattle.mux_items.specs.declared.channel.ChannelKey.{ChannelKey}
 use Rattle.mux_items.specs.Bodies.{same_key}
 use Rattle.mux_items.proofs.Keys.{same_key_refl}
 use Rattle.mux_end.specs.Stands.{EndValue}
-use Rattle.rpc_items.specs.Bodies.{Encoder, or_else}
+use Rattle.rpc_items.specs.Bodies.{Encoder}
 use Rattle.rpc_items.specs.Items.{RpcCall, RpcItem, Did, ended}
 use Rattle.rpc_items.specs.Refusals as rpc
 use Rattle.rpc_items.specs.Saying.{emits, said}
@@ -42,7 +43,7 @@ use Rattle.endpoint.specs.Sending.{FinishesSaid, IsAt, SendsAt, Writes}
 use Rattle.endpoint.specs.Stands.{ConnectionStands, IsConnection, Stands}
 use Rattle.endpoint.specs.Value.{AreOfOne, EndpointValue, connection_at, value_in}
 use Rattle.endpoint.proofs.Places.{absent, at_place, keys_of}
-use Rattle.endpoint.proofs.Sending.{at_set, one_set, same_set}
+use Rattle.endpoint.proofs.Sending.{at_set, one_changed, same_set}
 use Rattle.endpoint.proofs.OnChannel.{adds_on, followed_taken}
 use Rattle.endpoint.proofs.Standing.{not_stopped}
 
@@ -312,7 +313,7 @@ found_attached old items at rest place key s found = elim (slice_get_cases old.c
 pub one_called : (mux : EndValue) (xs : List Attached) (stopped : Bool) (old : EndpointValue) (key : ChannelKey) (place : ℕ) (x : Attached) (end : RpcValue) → value_in mux xs stopped ≡ old
     → position (λ (attached : Attached). same_key key attached.key) old.connections ≡ Some place → x ≡ get_or xs place x → AreOfOne xs → AreOfOne (set xs place (record x { end = end }))
 one_called mux xs stopped old key place x end view found is one =
-    one_set xs place x (record x { end = end }) (subst (λ (e : EndpointValue). place < length e.connections) (sym view) (found_within key old.connections place found)) is refl one
+    one_changed mux xs stopped old place x end view (found_within key old.connections place found) is one
 
 -- a fault is what the call answers
 pub finishes_fault : {A : Type 0} (old new : EndpointValue) (place : ℕ) (error : CallFault) (result : Result A CallFault) → result ≡ Err error → new ≡ finished {A = A} (Err error) old → FinishesSaid {A = A} old new place (Err error) result

@@ -8,6 +8,7 @@ use Rattle.wire_base.specs.declared.state.Cause.{Cause}
 use Rattle.wire_base.specs.declared.state.Cause.TheVariants as cause
 use Rattle.wire_base.specs.declared.state.EndState.{EndState}
 use Rattle.wire_base.specs.declared.state.EndState.TheVariants as state
+use Rattle.wire_base.specs.States.{state_by, is_running_state}
 use Rattle.mux_items.specs.declared.channel.ChannelKey.{ChannelKey}
 use Rattle.mux_items.specs.Bodies.{Content, ContentWritingCompleted, same_key}
 use Rattle.mux_items.specs.Calls.{called}
@@ -18,7 +19,7 @@ use Rattle.mux_end.specs.Stands.{EndValue, MuxStands}
 use Rattle.rpc_items.specs.Items as rpc
 use Rattle.rpc_end.specs.declared.terms.Terms.{Terms}
 use Rattle.rpc_end.specs.Replies as rpc_end
-use Rattle.rpc_end.specs.Stands.{RpcValue, RpcStands, state_by}
+use Rattle.rpc_end.specs.Stands.{RpcValue, RpcStands}
 use Rattle.endpoint_items.specs.Bytes.{consumed, rest_of}
 use Rattle.endpoint_items.specs.Connections.{Connection, is_attached}
 use Rattle.endpoint_items.specs.Following.{followed, read_all, complete_once}
@@ -27,24 +28,24 @@ use Rattle.endpoint_items.specs.Layers.{mux_of, rpc_of}
 use Rattle.endpoint.specs.declared.attached.Attached.{Attached}
 use Rattle.endpoint.specs.Changes.{Moves, MovesIf}
 use Rattle.endpoint.specs.Stands.{ConnectionStands}
-use Rattle.endpoint.specs.Steps.{Follows, HasApplied, runs, runs_on}
+use Rattle.endpoint.specs.Steps.{Follows, HasApplied, runs_on}
 use Rattle.endpoint.specs.Value.{EndpointValue, connection_at, value_in}
 use Rattle.endpoint.proofs.Events.{IsQuiet}
 use Rattle.endpoint.proofs.Frames.{completion_follows, content_follows, content_readable, quiet_follows}
 use Rattle.endpoint.proofs.Places.{IsAt, absent, at_place, ending}
 use Rattle.endpoint.proofs.Sending.{unstopped}
 
-pub not_running : (s : EndState) → (s ≡ state.Running → ⊥) → runs s ≡ false
+pub not_running : (s : EndState) → (s ≡ state.Running → ⊥) → is_running_state s ≡ false
 not_running state.Running other = absurd (other refl)
 not_running (state.Ended cause) other = refl
 not_running state.Stopped other = refl
 
-running_is : (s : EndState) → runs s ≡ true → s ≡ state.Running
+running_is : (s : EndState) → is_running_state s ≡ true → s ≡ state.Running
 running_is state.Running e = refl
 running_is (state.Ended cause) e = cc
 running_is state.Stopped e = cc
 
-pub running_place : (key : ChannelKey) (inside xs : List Attached) (i : ℕ) (x : Attached) (b : Bool) → inside ≡ xs → position (λ (a : Attached). same_key key a.key) xs ≡ Some i → x ≡ get_or inside i x → runs x.end.state ≡ b
+pub running_place : (key : ChannelKey) (inside xs : List Attached) (i : ℕ) (x : Attached) (b : Bool) → inside ≡ xs → position (λ (a : Attached). same_key key a.key) xs ≡ Some i → x ≡ get_or inside i x → is_running_state x.end.state ≡ b
     → (if b then Some i else None) ≡ (if runs_on (connection_at key xs) then position (λ (a : Attached). same_key key a.key) xs else None)
 running_place key inside xs i x b same place is e =
     let at = at_place key xs i x place (is ∙ ap (λ ys. get_or ys i x) same) in
@@ -80,7 +81,7 @@ none_runs key xs e = by (runs_on (connection_at key xs)) refl e
     by true h none = absurd (true≢false (sym h ∙ ap runs_on (absent key xs (sym none))))
     by false h none = refl
 
-ended_not : (why : Option Cause) → runs (state_by why) ≡ false → is_none why ≡ false
+ended_not : (why : Option Cause) → is_running_state (state_by why) ≡ false → is_none why ≡ false
 ended_not None e = cc
 ended_not (Some why) e = refl
 
@@ -88,7 +89,7 @@ pub unattached : (found : Option RpcValue) (connection : Connection) (terms : Te
 unattached None None terms at rest c e = refl
 unattached None (Some items) terms at rest c e = absurd c
 unattached (Some end) None terms at rest c e = absurd c
-unattached (Some end) (Some items) terms at rest c e = ended_not (rpc.ended items) (sym (ap runs c.stands.state) ∙ e)
+unattached (Some end) (Some items) terms at rest c e = ended_not (rpc.ended items) (sym (ap is_running_state c.stands.state) ∙ e)
 
 pub none_runs_quiet : (old : EndpointValue) (key : ChannelKey) (items : List EndItem) (item : Item) (at : ℕ) (rest : List ℕ) (r : Option ℕ) → HasApplied old items item at rest
     → r ≡ (if runs_on (connection_at key old.connections) then position (λ (a : Attached). same_key key a.key) old.connections else None) → r ≡ None

@@ -27,7 +27,7 @@ use Rattle.endpoint_items.specs.Following.{followed, write_said}
 use Rattle.endpoint.specs.declared.attached.Attached.{Attached}
 use Rattle.endpoint.specs.Changes.{Moves}
 use Rattle.endpoint.specs.Sending.{IsAt, SendsAt}
-use Rattle.endpoint.specs.Value.{AreOfOne, value_in}
+use Rattle.endpoint.specs.Value.{AreOfOne, EndpointValue, value_in}
 use Rattle.endpoint.proofs.Growing.{sends_none}
 use Rattle.endpoint.proofs.Places.{at_index, one_by_keys}
 
@@ -90,6 +90,12 @@ same_set xs i x e = ap (set xs i) (sym (get_or_from_slice_get xs i x x e)) ∙ s
 -- a connection that changes keeps its place
 pub one_set : (xs : List Attached) (i : ℕ) (x y : Attached) → i < length xs → x ≡ get_or xs i x → y.key ≡ x.key → AreOfOne xs → AreOfOne (set xs i y)
 one_set xs i x y within is key one = one_by_keys xs (set xs i y) (sym ((at_index xs i x within is one).keys y key)) one
+
+-- the same by the place in the end as it was seen outside
+pub one_changed : (mux : EndValue) (xs : List Attached) (stopped : Bool) (old : EndpointValue) (place : ℕ) (x : Attached) (end : RpcValue) → value_in mux xs stopped ≡ old → place < length old.connections
+    → x ≡ get_or xs place x → AreOfOne xs → AreOfOne (set xs place (record x { end = end }))
+one_changed mux xs stopped old place x end view within is one =
+    one_set xs place x (record x { end = end }) (subst (λ (e : EndpointValue). place < length e.connections) (sym view) within) is refl one
 
 -- want of memory hasn't stopped an end whose state is that of a multiplexing end which stands for items
 pub unstopped : (stopped : Bool) (mux : EndValue) (items : List Item) (at : ℕ) (rest : List ℕ) → MuxStands mux items at rest → (if stopped then state.Stopped else mux.state) ≡ mux.state → stopped ≡ false

@@ -10,6 +10,7 @@ use Rattle.wire_base.specs.declared.frame.Version.{Version}
 use Rattle.wire_base.specs.declared.refusal.Refusal.{Refusal}
 use Rattle.wire_base.specs.declared.refusal.Refusal.TheVariants as refusal
 use Rattle.wire_base.specs.declared.state.Cause.{Cause}
+use Rattle.wire_base.specs.Options.{or_else}
 use Rattle.mux_items.specs.declared.call.Call.{Call}
 use Rattle.mux_items.specs.declared.channel.ChannelKey.{ChannelKey}
 use Rattle.mux_items.specs.Bodies.{same_key}
@@ -19,7 +20,7 @@ use Rattle.mux_items.specs.Lists.{has_completed, termination_emitted}
 use Rattle.mux_items.specs.declared.channel.ChannelView.{ChannelView}
 use Rattle.mux_items.specs.Views.{view_of}
 use Rattle.mux_end.specs.Stands.{EndValue, MuxStands}
-use Rattle.mux_items.specs.Refusals.{is_unaccepted, or_else, unless_ended, write_refusal, read_refusal, complete_refusal}
+use Rattle.mux_items.specs.Refusals.{is_unaccepted, unless_ended, write_refusal, read_refusal, complete_refusal}
 use Rattle.rpc_end.specs.declared.terms.Terms.{Terms}
 use Rattle.rpc_end.specs.Stands.{RpcValue}
 use Rattle.endpoint_items.specs.Items.{EndItem, terms_of}

@@ -1,8 +1,8 @@
 -- What the parts of a step make of an end with connections.
-use Rattle.std.specs.Prelude.{◌≡◌, ◌≤◌, ℕ, ◌+◌, List, ◌∷◌, length, map, Bool, true, false, Option, Some, None}
+use Rattle.std.specs.Prelude.{◌≡◌, ◌≤◌, ℕ, ◌+◌, List, ◌∷◌, length, map, Bool, false, Option, Some, None}
 use Rattle.wire_base.specs.declared.state.Cause.{Cause}
-use Rattle.wire_base.specs.declared.state.EndState.{EndState}
 use Rattle.wire_base.specs.declared.state.EndState.TheVariants as state
+use Rattle.wire_base.specs.States.{is_running_state}
 use Rattle.mux_items.specs.declared.channel.ChannelKey.{ChannelKey}
 use Rattle.mux_items.specs.declared.channel.MuxEvent.{MuxEvent}
 use Rattle.mux_items.specs.declared.call.Call.TheVariants as call
@@ -29,13 +29,8 @@ use Rattle.endpoint.specs.Stands.{Stands, ConnectionStands}
 use Rattle.endpoint.specs.Value.{EndpointValue, connection_at}
 
 -- whether a connection is there and runs
-abbrev pub runs : EndState → Bool
-runs state.Running = true
-runs (state.Ended cause) = false
-runs state.Stopped = false
-
 abbrev pub runs_on : Option RpcValue → Bool
-runs_on (Some end) = runs end.state
+runs_on (Some end) = is_running_state end.state
 runs_on None = false
 
 -- connections make of an end what the next message asks for; without one nothing happens. Want of memory may come before

@@ -15,8 +15,9 @@ mod step;
 pub use endpoint::Endpoint;
 pub use endpoint_items::{Call, EndEvent, Reply};
 pub use mux_end::{ChannelKey, ChannelView, MuxEvent, Phase, Tally};
+pub use mux_items::{Call as MuxCall, NONCE_SIZE};
 pub use rpc_end::{
     Answer, Arg, ArgList, Arguments, Encoding, Expect, Framing, HandleKey, Lifetime, Look, Outcome,
-    Params, RpcEvent, Target,
+    Params, RpcEvent, Target, Terms,
 };
 pub use step::EndStep;

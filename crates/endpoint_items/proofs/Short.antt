@@ -9,13 +9,14 @@ use Rattle.wire_base.specs.declared.refusal.Refusal.{Refusal}
 use Rattle.wire_base.specs.declared.refusal.Refusal.TheVariants as refusal
 use Rattle.wire_base.specs.declared.state.Cause.{Cause}
 use Rattle.wire_base.specs.declared.text.Id.{Id}
+use Rattle.wire_base.specs.Options.{or_else}
 use Rattle.rpc_items.specs.declared.calls.Answer.TheVariants as answer
 use Rattle.rpc_items.specs.declared.messages.Message.{Message}
 use Rattle.rpc_items.specs.declared.messages.Message.TheVariants.{Request}
 use Rattle.rpc_items.specs.declared.methods.Meaning.{Meaning}
 use Rattle.rpc_items.specs.declared.methods.Meaning.TheVariants.{Turns, Calls}
 use Rattle.rpc_items.specs.Automatic.{automatic, fault, nothing_there, page_by, turned}
-use Rattle.rpc_items.specs.Bodies.{Encoder, most_body, most_nested, most_page, body_refusal, first_refusal, sequence_refusal, or_else}
+use Rattle.rpc_items.specs.Bodies.{Encoder, most_body, most_nested, most_page, body_refusal, first_refusal, sequence_refusal}
 use Rattle.rpc_items.specs.Fitting.{AreWritable}
 use Rattle.rpc_items.specs.Items as rpc
 use Rattle.rpc_items.specs.Meanings.{meaning}

@@ -1,6 +1,6 @@
 -- How long the texts of messages are that an end says.
 use Rattle.std.specs.Prelude.{nat_lt, false, codes}
-use Rattle.std.proofs.Common.{◌≡◌, ℕ, ◌≤◌, List, [], ◌∷◌, ◌++◌, length, decimal, arith, length-append, append-nil}
+use Rattle.std.proofs.Common.{◌≡◌, ℕ, ◌-◌, ◌≤◌, List, [], ◌∷◌, ◌++◌, length, decimal, arith, length-append, append-nil}
 use Rattle.std.proofs.lemmas.Bool.{ltb-false}
 use Rattle.std.proofs.lemmas.Fmt.{length-decimal-le}
 use Rattle.message_framing.specs.declared.framing.Framing.{Framing}
@@ -15,7 +15,8 @@ use Rattle.rpc_end.specs.declared.terms.Terms.{Terms}
 use Rattle.rpc_end.specs.Texts.{message_text, message_texts}
 use Rattle.endpoint_items.specs.Calls.{most_text}
 
-head_short : (f : Framing) (n : ℕ) → n ≤ most_body → length (head_text f n) ≤ 4096
+-- a head is no longer than what a text may have beside its body
+head_short : (f : Framing) (n : ℕ) → n ≤ most_body → length (head_text f n) ≤ most_text - most_body
 unfolding head_text
 head_short framing.Header n most =
     omega (arith, length-append (codes "Content-Length: ") (decimal n ++ (line_end ++ line_end)), length-append (decimal n) (line_end ++ line_end), length-decimal-le 8 n (omega arith) (omega arith) (omega arith))

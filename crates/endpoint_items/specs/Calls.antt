@@ -3,6 +3,7 @@ use Rattle.std.specs.Prelude.{ℕ, ◌-◌, List, ◌∷◌, length, Bool, true,
 use Rattle.wire_base.specs.declared.frame.Version.{Version}
 use Rattle.wire_base.specs.declared.refusal.Refusal.{Refusal}
 use Rattle.wire_base.specs.declared.refusal.Refusal.TheVariants as refusal
+use Rattle.wire_base.specs.Options.{or_else}
 use Rattle.mux_items.specs.declared.call.Call.{Call}
 use Rattle.mux_items.specs.declared.call.Call.TheVariants as call
 use Rattle.mux_items.specs.declared.channel.ChannelKey.{ChannelKey}
@@ -11,7 +12,7 @@ use Rattle.mux_items.specs.Calls as mux
 use Rattle.mux_items.specs.Items.{Item, ended}
 use Rattle.mux_items.specs.Limits.{most_bytes}
 use Rattle.mux_items.specs.Lists.{written}
-use Rattle.mux_items.specs.Refusals.{unless_ended, or_else, open_refusal, is_unaccepted}
+use Rattle.mux_items.specs.Refusals.{unless_ended, open_refusal, is_unaccepted}
 use Rattle.message_body.specs.Written.{encoder}
 use Rattle.rpc_items.specs.Items.{RpcCall}
 use Rattle.rpc_items.specs.Refusals as rpc

@@ -2,9 +2,8 @@
 
 use crate::answers::other;
 use crate::values::answer_of;
-use endpoint::{Answer, Call, ChannelKey, Encoding, Expect, Framing};
+use endpoint::{Answer, Call, ChannelKey, Encoding, Expect, Framing, MuxCall, Terms};
 use row_words::{call_of, count, handle_of, id_of, number, size, value};
-use rpc_end::Terms;
 use std::alloc::Global;
 use std::test::Fail;
 use wire_base::{Blob, Text};
@@ -83,15 +82,15 @@ fn part_of(alloc: Global, bytes: &[u8], (from, to): (u32, u32)) -> Result<Vec<u8
     Ok(Vec::from_slice(alloc, part)?)
 }
 
-pub fn offers(alloc: Global, words: &str) -> Result<mux_items::Call, Fail> {
+pub fn offers(alloc: Global, words: &str) -> Result<MuxCall, Fail> {
     let (name, word) = first(words);
     let name = Text::from_str(alloc, name)?;
-    Ok(mux_items::Call::Offer(name, size(word)))
+    Ok(MuxCall::Offer(name, size(word)))
 }
 
-fn writes(alloc: Global, key: ChannelKey, bytes: &[u8]) -> Result<mux_items::Call, Fail> {
+fn writes(alloc: Global, key: ChannelKey, bytes: &[u8]) -> Result<MuxCall, Fail> {
     let bytes = Blob::from_bytes(alloc, bytes)?;
-    Ok(mux_items::Call::Write(key, bytes))
+    Ok(MuxCall::Write(key, bytes))
 }
 
 fn attaches(key: ChannelKey, words: &str) -> Call {
@@ -154,15 +153,15 @@ fn carries(
     alloc: Global,
     key: ChannelKey,
     (name, words): (&str, &str),
-) -> Result<Option<mux_items::Call>, Fail> {
+) -> Result<Option<MuxCall>, Fail> {
     Ok(Some(match name {
-        "accepts" => mux_items::Call::Accept(key, size(words)),
+        "accepts" => MuxCall::Accept(key, size(words)),
         "says" => writes(alloc, key, &framed(alloc, words)?)?,
         "begins" => writes(alloc, key, &broken_off(alloc, words)?)?,
         "writes" => writes(alloc, key, &part(alloc, words)?)?,
-        "reads" => mux_items::Call::Read(key, size(words)),
-        "completes" => mux_items::Call::Complete(key),
-        "terminates" => mux_items::Call::Terminate(key),
+        "reads" => MuxCall::Read(key, size(words)),
+        "completes" => MuxCall::Complete(key),
+        "terminates" => MuxCall::Terminate(key),
         _ => return Ok(None),
     }))
 }

@@ -7,7 +7,7 @@ use Rattle.frame_text.specs.Hello.{hello}
 use Rattle.mux_items.specs.Bodies.{frame_texts}
 use Rattle.mux_items.specs.Limits.{most_bytes}
 use Rattle.mux_items.specs.Refusals.{is_ready}
-use Rattle.mux_run.specs.Run.{RunSide, World, Terms, SideTerms, terms_at_a, terms_at_b, happens_at}
+use Rattle.mux_run.specs.Run.{Terms, SideTerms, terms_at_a, terms_at_b}
 use Rattle.mux_run.specs.Run as mux_run
 use Rattle.mux_run.specs.Linked.{Joined}
 use Rattle.mux_run.specs.Spending.{RunStep, come_from, run_through}

@@ -1,6 +1,6 @@
 -- What steps tell: the events of the items that they add. A question adds none.
-use Rattle.std.specs.Prelude.{nat_lt, if◌then◌else◌}
-use Rattle.std.proofs.Common.{◌≡◌, ℕ, ◌≤◌, arith, List, [], ◌∷◌, ◌++◌, length, refl, sym, ◌∙◌, ap, ap₂, length-append, Option, Some, None}
+use Rattle.std.specs.Prelude.{if◌then◌else◌}
+use Rattle.std.proofs.Common.{◌≡◌, ℕ, ◌≤◌, arith, List, [], ◌∷◌, ◌++◌, length, refl, ◌∙◌, ap, length-append, Option, Some, None}
 use Rattle.std.proofs.lemmas.Bool.{lt-ltb, le-ltb}
 use Rattle.wire_base.specs.declared.frame.Version.{Version}
 use Rattle.mux_items.specs.declared.channel.ChannelKey.{ChannelKey}
@@ -8,9 +8,8 @@ use Rattle.mux_run.specs.Run.{Terms, SideTerms}
 use Rattle.mux_run.specs.declared.steps.Side.{Side}
 use Rattle.endpoint_items.specs.declared.call.Call.TheVariants as call
 use Rattle.endpoint_items.specs.Items.{EndItem}
-use Rattle.endpoint_run.specs.Answers.{events_of, events_since, events_after, made_step, if_made, made_steps, side_by, world_by, events_in, TellsOfNew, run}
-use Rattle.endpoint_run.specs.Run.{EndSide, EndWorld, EndStep, turns_of, side_after, happens, start, run_from, end_run}
-use Rattle.endpoint_run.specs.declared.answers.SideEvent.{SideEvent}
+use Rattle.endpoint_run.specs.Answers.{events_of, events_since, events_after, made_step, if_made, made_steps, world_by, TellsOfNew, run}
+use Rattle.endpoint_run.specs.Run.{EndSide, EndWorld, EndStep, turns_of, happens, start, run_from, end_run}
 use Rattle.endpoint_run.specs.declared.steps.Step.{Step}
 use Rattle.endpoint_run.specs.declared.steps.Step.TheVariants as step
 use Rattle.endpoint_run.proofs.Growing.{side_newer}

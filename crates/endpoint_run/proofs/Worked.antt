@@ -111,7 +111,7 @@ are_messages : AreMessages (request ∷ [])
 unfolding is_utf8 chars encode
 are_messages = (
   record {
-    sayable = refl;
+    can_be_told = refl;
     value = (IsUtf8-from_is_utf8 _ refl, IsUtf8-from_is_utf8 _ refl, (IsUtf8-from_is_utf8 _ refl, one, (IsUtf8-from_is_utf8 _ refl, IsUtf8-from_is_utf8 _ refl, (IsUtf8-from_is_utf8 _ refl, tt, tt))));
   },
   tt,

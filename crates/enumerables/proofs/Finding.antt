@@ -1,23 +1,18 @@
 -- The sequence of a request among those that are followed.
 use Rattle.std.specs.Prelude.{Bool, true, false, ◌==◌, map, filter, option_map, if◌then◌else◌}
 use Rattle.std.proofs.Common.{◌≡◌, ◌≢◌, ℕ, List, [], ◌∷◌, ◌++◌, refl, sym, ◌∙◌, ap, inl, inr, Option, Some, None}
-use Rattle.std.proofs.lemmas.Bool.{cases_Bool, eq-eqb, eqb-true}
+use Rattle.std.proofs.lemmas.Bool.{cases_Bool, eqb-true}
 use Rattle.wire_base.specs.declared.text.Id.{Id}
-use Rattle.rpc_items.specs.Outcomes.{first_of}
+use Rattle.wire_base.specs.Options.{or_else}
+use Rattle.wire_base.proofs.Places.{eq_apart, eq_refl}
 use Rattle.enumerables.specs.declared.followed.Followed.{Followed}
 use Rattle.enumerables.specs.Consumer.{found, is_turn_of, follows, asking, rested}
 use Rattle.enumerables.specs.Stands.{AreOnce}
 
--- numbers that are the same, or aren't
-
-pub eq_refl : (n : ℕ) → (n == n) ≡ true
-eq_refl n = eq-eqb n n refl
+-- numbers that aren't the same
 
 pub eq_false : (n m : ℕ) → n ≢ m → (n == m) ≡ false
 eq_false n m d = elim (cases_Bool (n == m)) [ inl e ↦ absurd (d (eqb-true n m e)) | inr e ↦ e ]
-
-pub eq_apart : (n m : ℕ) → (n == m) ≡ false → n ≢ m
-eq_apart n m e same = cc (sym (eq-eqb n m same) ∙ e)
 
 -- a sequence that becomes another one of the same request
 
@@ -87,11 +82,11 @@ found_filter test n (f ∷ followed) once = by (test f) (f.request == n) refl re
 
 -- one more
 
-pub found_append : (n : ℕ) (followed more : List Followed) → found n (followed ++ more) ≡ first_of (found n followed) (found n more)
+pub found_append : (n : ℕ) (followed more : List Followed) → found n (followed ++ more) ≡ or_else (found n followed) (found n more)
 found_append n [] more = refl
 found_append n (f ∷ followed) more = by (f.request == n) (found_append n followed more)
   where
-    by : (b : Bool) → found n (followed ++ more) ≡ first_of (found n followed) (found n more) → (if b then Some f else found n (followed ++ more)) ≡ first_of (if b then Some f else found n followed) (found n more)
+    by : (b : Bool) → found n (followed ++ more) ≡ or_else (found n followed) (found n more) → (if b then Some f else found n (followed ++ more)) ≡ or_else (if b then Some f else found n followed) (found n more)
     by true ih = refl
     by false ih = ih
 
@@ -118,6 +113,6 @@ once_more number (Some token) [] e once = (refl, tt)
 once_more number None [] e once = tt
 once_more number token (f ∷ followed) e once =
     let parts = found_none_apart number f followed e in (
-      found_append f.request followed (follows number token) ∙ (ap (λ (o : Option Followed). first_of o (found f.request (follows number token))) once.0 ∙ found_other f.request number token parts.0),
+      found_append f.request followed (follows number token) ∙ (ap (λ (o : Option Followed). or_else o (found f.request (follows number token))) once.0 ∙ found_other f.request number token parts.0),
       once_more number token followed parts.1 once.1,
     )

@@ -1,50 +1,27 @@
 -- The sequences of own requests, by the items.
 use Rattle.std.specs.Prelude.{Bool, true, false, not, ◌&&◌, ◌||◌, ◌==◌, ◌⊎◌, nat_lt, nat_le, is_some, is_none, option_map, if◌then◌else◌}
 use Rattle.std.proofs.Common.{◌≡◌, ℕ, ◌+◌, List, [], ◌∷◌, refl, sym, ◌∙◌, ap, ap₂, inl, inr, arith, Option, Some, None, le-leb, length-append}
-use Rattle.std.proofs.lemmas.Bool.{cases_Bool, and_from, lt-ltb, leb-true, and_parts}
+use Rattle.std.proofs.lemmas.Bool.{and_from, lt-ltb}
 use Rattle.wire_base.specs.declared.text.Id.{Id}
 use Rattle.rpc_items.specs.declared.calls.Outcome.{Outcome}
 use Rattle.rpc_items.specs.Drawn.{Asked, asked, asked_by, asked_at, drawn, is_drawn}
 use Rattle.rpc_items.specs.Items.{RpcItem, Did, Next, is_running}
-use Rattle.rpc_items.specs.Outcomes.{answer_to, first_of, is_unanswered, response_to}
+use Rattle.rpc_items.specs.Outcomes.{answer_to, is_unanswered}
 use Rattle.rpc_items.specs.Sequences.{adopted_token, expects_sequence, has_given_up, is_last_page, is_turning, last_turn, sequence_of, token_of, turn_is_last, turn_is_unanswered, unless_over}
 use Rattle.rpc_items.proofs.Paging.{with_number-append}
-use Rattle.rpc_items.proofs.Reported.{undrawn_before}
 use Rattle.rpc_items.proofs.Stable.{is_drawn_more}
+use Rattle.rpc_items.proofs.Undrawn.{drawn_some, unanswered_undrawn}
 use Rattle.enumerables.specs.declared.followed.Followed.{Followed}
 use Rattle.enumerables.specs.Stands.{turn_of, followed_after}
-use Rattle.enumerables.proofs.Places.{numbered_some}
 
--- drawn requests
+-- a request for a page is drawn
 
-pub drawn_some : (n : ℕ) (items : List RpcItem) → is_drawn n items ≡ is_some (asked_at n items)
-drawn_some n items = numbered_some n (asked items)
-
-no_drawing : (b c : Bool) (a o : Option Outcome) → c ≡ false → (if b && c then first_of a o else a) ≡ a
-no_drawing true true a o e = absurd (cc e)
-no_drawing true false a o e = refl
-no_drawing false c a o e = refl
-
-pub unanswered_undrawn : (n : ℕ) (items : List RpcItem) → is_drawn n items ≡ false → answer_to n items ≡ None
-unanswered_undrawn n [] e = refl
-unanswered_undrawn n (item ∷ items) e =
-    let before = undrawn_before n item items e in
-    no_drawing (is_running items) (is_drawn n items) (answer_to n items) (response_to n item) before ∙ unanswered_undrawn n items before
-
--- a request above the last number isn't drawn
-pub next_undrawn : (items : List RpcItem) → is_drawn (drawn items + 1) items ≡ false
-next_undrawn items = elim (cases_Bool (is_drawn (drawn items + 1) items)) [
-  | inl h ↦ absurd (let le = leb-true (drawn items + 1) (drawn items) (and_parts (nat_lt 0 (drawn items + 1)) (nat_le (drawn items + 1) (drawn items)) h).1 in omega (arith, le))
-  | inr h ↦ h
-]
-
--- and is drawn next
 pub next_drawn : (n : ℕ) (items : List RpcItem) → is_drawn (drawn items + 1) (Did (Next n) ∷ items) ≡ true
 next_drawn n items =
     and_from (nat_lt 0 (drawn items + 1)) (nat_le (drawn items + 1) (drawn (Did (Next n) ∷ items))) (lt-ltb 0 (drawn items + 1) (omega arith))
     (le-leb (drawn items + 1) (drawn (Did (Next n) ∷ items)) (omega (arith, length-append (asked items) (asked_by (Did (Next n))))))
 
--- a request for a page was drawn
+-- and stays so
 
 if_turn : (b : Bool) (m k : ℕ) (o : Option ℕ) → (if b then Some m else o) ≡ Some k → ((m ≡ k) ⊎ (o ≡ Some k))
 if_turn true m k o e = inl (cc e)

@@ -2,36 +2,21 @@
 use Rattle.std.specs.Prelude.{Bool, true, false, not, ◌&&◌, ◌||◌, ◌==◌, is_none, option_map, if◌then◌else◌}
 use Rattle.std.proofs.Common.{◌≡◌, ℕ, ◌+◌, List, [], ◌∷◌, refl, sym, ◌∙◌, ap, ap₂, subst, Option, Some, None}
 use Rattle.std.proofs.lemmas.Bool.{eqb-true}
-use Rattle.wire_base.specs.declared.refusal.Refusal.TheVariants as refusal
 use Rattle.wire_base.specs.declared.state.Cause.{Cause}
 use Rattle.wire_base.specs.declared.text.Id.{Id}
-use Rattle.rpc_items.specs.Drawn.{drawn, is_drawn}
-use Rattle.rpc_items.specs.Items.{RpcCall, RpcItem, Did, End, Next, Abort, is_running}
+use Rattle.wire_base.proofs.Places.{eq_apart, eq_refl}
+use Rattle.rpc_items.specs.Drawn.{drawn}
+use Rattle.rpc_items.specs.Items.{RpcItem, Did, End, Next, Abort, is_running}
 use Rattle.rpc_items.specs.Outcomes.{answer_to, is_unanswered}
 use Rattle.rpc_items.specs.Refusals.{has_sequence, turn_refusal}
 use Rattle.rpc_items.specs.Sequences.{adopted_token, has_given_up, is_last_page, is_turning, last_turn, sequence_of, turn_is_last, turn_is_unanswered, unless_over}
-use Rattle.rpc_items.proofs.Settling.{same}
+use Rattle.rpc_items.proofs.Undrawn.{next_undrawn, unanswered_undrawn, call_same, end_same}
+use Rattle.rpc_items.proofs.Drawing.{turn_accepted}
 use Rattle.enumerables.specs.declared.followed.Followed.{Followed}
 use Rattle.enumerables.specs.Consumer.{asking, found, turning, without}
 use Rattle.enumerables.specs.Stands.{ConsumerStands, IsUntouched, followed_after, turn_of}
-use Rattle.enumerables.proofs.Finding.{asking_keeps, eq_apart, eq_false, eq_refl, found_map, once_filter, once_map}
-use Rattle.enumerables.proofs.Following.{IsApart, apart_same, followed_as, found_same, next_drawn, next_undrawn, token_same, unadopted, unanswered_undrawn}
-
--- no sequence
-
-untouched_first : (n : ℕ) → answer_to n [] ≡ None → IsUntouched n []
-untouched_first n e = record { turned = refl; kept = refl }
-
-pub none_followed : ConsumerStands [] []
-none_followed = record { each = λ n. sym (ap (option_map (followed_after n [])) (unadopted n [] refl)); once = tt; early = untouched_first }
-
--- answers that a call or the end doesn't change
-
-pub call_same : (n : ℕ) (call : RpcCall) (items : List RpcItem) → answer_to n (Did call ∷ items) ≡ answer_to n items
-call_same n call items = same (is_running items && is_drawn n items) (answer_to n items)
-
-pub end_same : (n : ℕ) (cause : Cause) (items : List RpcItem) → answer_to n (End cause ∷ items) ≡ answer_to n items
-end_same n cause items = same (is_running items && is_drawn n items) (answer_to n items)
+use Rattle.enumerables.proofs.Finding.{asking_keeps, eq_false, found_map, once_filter, once_map}
+use Rattle.enumerables.proofs.Following.{IsApart, apart_same, followed_as, found_same, next_drawn, token_same, unadopted}
 
 -- an item that touches no sequence
 
@@ -47,10 +32,6 @@ passed followed item items apart s = record {
 
 -- what refusals tell
 
-is_followed : (has turning : Bool) → (if not has then Some refusal.NoEnumerable else if turning then Some refusal.NextOutstanding else None) ≡ None → has ≡ true
-is_followed true turning e = refl
-is_followed false turning e = absurd (cc e)
-
 live_parts : (g l r : Bool) (token : Option Id) → has_sequence (unless_over (g || l || not r) token) ≡ true → (l ≡ false) × (r ≡ true)
 live_parts true l r token e = absurd (cc e)
 live_parts false true r token e = absurd (cc e)
@@ -58,7 +39,7 @@ live_parts false false false token e = absurd (cc e)
 live_parts false false true token e = (refl, refl)
 
 is_live : (n : ℕ) (items : List RpcItem) → turn_refusal n items ≡ None → has_sequence (sequence_of n items) ≡ true
-is_live n items e = is_followed (has_sequence (sequence_of n items)) (is_turning n items) e
+is_live n items e = turn_accepted (has_sequence (sequence_of n items)) (is_turning n items) e
 
 -- a request with a sequence was answered
 live_answered : (n : ℕ) (items : List RpcItem) → has_sequence (sequence_of n items) ≡ true → answer_to n items ≡ None → ⊥

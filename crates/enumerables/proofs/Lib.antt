@@ -1,4 +1,3 @@
-pub mod Places
 pub mod Tokens
 pub mod Standing
 pub mod Finding

@@ -1,28 +1,23 @@
 -- Items that leave what is kept of sequences as it is.
 use Rattle.std.specs.Prelude.{Bool, true, false}
-use Rattle.std.proofs.Common.{◌≡◌, ℕ, List, [], ◌∷◌, refl, ◌∙◌, ap, subst, Option, Some, None}
+use Rattle.std.proofs.Common.{◌≡◌, ℕ, List, [], ◌∷◌, refl, subst, Option, None}
 use Rattle.wire_base.specs.declared.text.Id.{Id}
 use Rattle.rpc_items.specs.declared.calls.Outcome.{Outcome}
 use Rattle.rpc_items.specs.declared.messages.Message.{Message}
-use Rattle.rpc_items.specs.declared.messages.Message.TheVariants.{Request}
-use Rattle.rpc_items.specs.declared.messages.Params.{Params}
-use Rattle.rpc_items.specs.declared.methods.Meaning.TheVariants.{Turns}
 use Rattle.rpc_items.specs.Events.{answered_event}
 use Rattle.rpc_items.specs.Items.{RpcCall, RpcItem, Did, Got, Next, Abort}
-use Rattle.rpc_items.specs.Meanings.{meaning}
 use Rattle.rpc_items.specs.Outcomes.{answer_to, is_unanswered, request_named, response_in}
 use Rattle.rpc_items.specs.Produced.{produced_by}
-use Rattle.rpc_items.specs.Producing.{turns_page, aborts, sequence_named}
+use Rattle.rpc_items.specs.Producing.{turns_page, aborts}
 use Rattle.rpc_items.specs.Stable.{Settles}
 use Rattle.rpc_items.proofs.Settling.{IsResponse, other, settled_response, too_late}
+use Rattle.rpc_items.proofs.Undrawn.{call_same}
 use Rattle.enumerables.specs.declared.followed.Followed.{Followed}
 use Rattle.enumerables.specs.declared.sequence.Sequence.{Sequence}
-use Rattle.enumerables.specs.Producer.{changed, named_in, paging}
-use Rattle.enumerables.specs.Stands.{ConsumerStands, ProducerStands, next_page, next_page_of}
+use Rattle.enumerables.specs.Stands.{ConsumerStands, ProducerStands}
 use Rattle.enumerables.proofs.Following.{IsApart}
-use Rattle.enumerables.proofs.Keeping.{call_same}
 use Rattle.enumerables.proofs.Keeping as keeping
-use Rattle.enumerables.proofs.Standing.{turned_stands, untouched}
+use Rattle.enumerables.proofs.Standing.{untouched}
 use Rattle.enumerables.proofs.Standing as standing
 use Rattle.enumerables.proofs.Tokens.{names}
 
@@ -33,19 +28,6 @@ call_leaves_producer sequences call items none s = standing.passed sequences (Di
 -- a message that neither asks for a page of any token nor gives any up
 pub message_leaves_producer : (sequences : List Sequence) (place : ℕ) (message : Message) (items : List RpcItem) → ((token : ℕ) → turns_page token (Got place message) ≡ false) → ((token : ℕ) → aborts token (Got place message) ≡ false) → ProducerStands sequences items → ProducerStands sequences (Got place message ∷ items)
 message_leaves_producer sequences place message items turns gives s = standing.passed sequences (Got place message) items refl (λ token. untouched token (Got place message) items refl refl (turns token) (gives token)) s
-
--- a request for a page of a token that doesn't live
-
-no_token : (o : Option ℕ) (items : List RpcItem) → next_page_of o items ≡ None → o ≡ None
-no_token (Some token) items e = absurd (cc e)
-no_token None items e = refl
-
-pub no_page_leaves_producer : (token id : Id) (place : ℕ) (method : List ℕ) (params : Params) (sequences : List Sequence) (items : List RpcItem) → meaning method params ≡ Turns token → next_page token items ≡ None
-    → ProducerStands sequences items → ProducerStands sequences (Got place (Request id method params) ∷ items)
-no_page_leaves_producer token id place method params sequences items means none s =
-    let unnamed : named_in token sequences ≡ None = names sequences items token s ∙ no_token (sequence_named token items) items none in
-    subst (λ (ss : List Sequence). ProducerStands ss (Got place (Request id method params) ∷ items)) (ap (λ (o : Option ℕ). changed o paging sequences) unnamed)
-    (turned_stands token id place method params sequences items means s)
 
 -- a call that asks for a page, or gives a sequence up
 abbrev pub is_page_call : RpcCall → Bool

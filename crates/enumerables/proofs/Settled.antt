@@ -4,6 +4,8 @@ use Rattle.std.proofs.Common.{◌≡◌, ◌≢◌, ℕ, List, ◌∷◌, ◌++�
 use Rattle.std.proofs.lemmas.Bool.{eqb-true}
 use Rattle.std.proofs.lemmas.List.{append-nil}
 use Rattle.wire_base.specs.declared.text.Id.{Id}
+use Rattle.wire_base.specs.Options.{or_else}
+use Rattle.wire_base.proofs.Places.{eq_apart, eq_refl}
 use Rattle.rpc_items.specs.declared.calls.Expect.{Expect}
 use Rattle.rpc_items.specs.declared.calls.Outcome.{Outcome}
 use Rattle.rpc_items.specs.declared.messages.Message.{Message}
@@ -11,14 +13,14 @@ use Rattle.rpc_items.specs.declared.messages.Message.TheVariants as message
 use Rattle.rpc_items.specs.Drawn.{asked, asked_at, is_drawn, with_number}
 use Rattle.rpc_items.specs.Ids.{same_id, numbered_id}
 use Rattle.rpc_items.specs.Items.{RpcItem, Got, is_running}
-use Rattle.rpc_items.specs.Outcomes.{answer_to, first_of, is_unanswered, response_in}
+use Rattle.rpc_items.specs.Outcomes.{answer_to, is_unanswered, response_in}
 use Rattle.rpc_items.specs.Sequences.{adopted_token, expects_sequence, has_given_up, is_last_page, is_sequence, last_turn, sequence_of, token_of, turn_is_last, turn_is_unanswered, unless_over}
-use Rattle.rpc_items.proofs.Answering.{same_id_eq}
 use Rattle.rpc_items.proofs.Settling.{first, other}
+use Rattle.rpc_items.proofs.SameIds.{same_id_eq, number_eq}
 use Rattle.enumerables.specs.declared.followed.Followed.{Followed}
 use Rattle.enumerables.specs.Consumer.{adopted, follows, found, is_turn_of, paged, rested, settled}
 use Rattle.enumerables.specs.Stands.{AreOnce, ConsumerStands, IsUntouched, followed_after, turn_of}
-use Rattle.enumerables.proofs.Finding.{eq_apart, eq_refl, found_append, found_filter, found_map, found_new, found_other, once_filter, once_map, once_more, rested_keeps, where_passes}
+use Rattle.enumerables.proofs.Finding.{found_append, found_filter, found_map, found_new, found_other, once_filter, once_map, once_more, rested_keeps, where_passes}
 use Rattle.enumerables.proofs.Following.{followed_as, last_drawn, token_same, unadopted, unanswered_same}
 
 -- a response to one request is none to another
@@ -26,9 +28,6 @@ use Rattle.enumerables.proofs.Following.{followed_as, last_drawn, token_same, un
 if_some : (b : Bool) (x o : Outcome) → (if b then Some x else None) ≡ Some o → b ≡ true
 if_some true x o e = refl
 if_some false x o e = absurd (cc e)
-
-number_eq : (a b : ℕ) → numbered_id a ≡ numbered_id b → a ≡ b
-number_eq a b e = cc e
 
 other_id : (id : Id) (m number : ℕ) → same_id id (numbered_id number) ≡ true → m ≢ number → same_id id (numbered_id m) ≡ false
 other_id id m number e d = by (same_id id (numbered_id m)) refl
@@ -153,16 +152,16 @@ paged_once number false followed once = once_map (rested number) followed (reste
 
 -- the sequence that a result is
 
-first_none : {A : Type 0} (o : Option A) → first_of o None ≡ o
+first_none : {A : Type 0} (o : Option A) → or_else o None ≡ o
 first_none (Some x) = refl
 first_none None = refl
 
 adopted_other : (m number : ℕ) (adopts : Bool) (token : Option Id) (followed : List Followed) → m ≢ number → found m (if adopts then followed ++ follows number token else followed) ≡ found m followed
-adopted_other m number true token followed d = found_append m followed (follows number token) ∙ (ap (first_of (found m followed)) (found_other m number token d) ∙ first_none (found m followed))
+adopted_other m number true token followed d = found_append m followed (follows number token) ∙ (ap (or_else (found m followed)) (found_other m number token d) ∙ first_none (found m followed))
 adopted_other m number false token followed d = refl
 
 adopted_this : (number : ℕ) (adopts : Bool) (token : Option Id) (followed : List Followed) → found number followed ≡ None → found number (if adopts then followed ++ follows number token else followed) ≡ option_map (followed_as number None) (if adopts then token else None)
-adopted_this number true token followed e = found_append number followed (follows number token) ∙ (ap (λ (o : Option Followed). first_of o (found number (follows number token))) e ∙ found_new number token)
+adopted_this number true token followed e = found_append number followed (follows number token) ∙ (ap (λ (o : Option Followed). or_else o (found number (follows number token))) e ∙ found_new number token)
 adopted_this number false token followed e = e
 
 adopted_once : (number : ℕ) (adopts : Bool) (token : Option Id) (followed : List Followed) → found number followed ≡ None → AreOnce followed → AreOnce (if adopts then followed ++ follows number token else followed)

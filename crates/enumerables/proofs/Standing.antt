@@ -1,13 +1,14 @@
 -- What is kept of the sequences that were answered stands for the items again after each item.
-use Rattle.std.specs.Prelude.{Bool, true, false, not, ◌&&◌, ◌||◌, ◌⊎◌, nat_lt, slice_get, option_map, is_some, if◌then◌else◌, pos, zero, suc}
+use Rattle.std.specs.Prelude.{Bool, true, false, not, ◌&&◌, ◌||◌, ◌⊎◌, nat_lt, slice_get, option_map, is_some, if◌then◌else◌, zero, suc}
 use Rattle.std.proofs.Common.{◌≡◌, ◌≢◌, ℕ, ◌+◌, ◌-◌, ◌*◌, ◌<◌, List, [], ◌∷◌, ◌++◌, length, drop, refl, sym, ◌∙◌, ap, ap₂, subst, inl, inr, arith, Option, Some, None, length-append}
 use Rattle.std.proofs.lemmas.Bool.{ltb-false}
-use Rattle.std.proofs.lemmas.Bool.Decides.{Decides-int_eq}
 use Rattle.std.proofs.lemmas.List.{append-nil, drop-drop, drop_all, length-map}
 use Rattle.std.proofs.lemmas.Option.{slice_get_past, slice_get-map}
 use Rattle.wire_base.specs.Tree.{Tree}
 use Rattle.wire_base.specs.declared.state.Cause.{Cause}
 use Rattle.wire_base.specs.declared.text.Id.{Id}
+use Rattle.wire_base.specs.Lists.{changed_at}
+use Rattle.wire_base.proofs.Places.{get_before, get_last, three_ways, changed_at_same, changed_at_other, length-changed_at}
 use Rattle.rpc_items.specs.declared.calls.Answer.TheVariants as answer
 use Rattle.rpc_items.specs.declared.messages.Message.{Message}
 use Rattle.rpc_items.specs.declared.messages.Message.TheVariants.{Request, Notification}
@@ -20,18 +21,13 @@ use Rattle.rpc_items.specs.Meanings.{meaning}
 use Rattle.rpc_items.specs.Pages.{are_left}
 use Rattle.rpc_items.specs.Produced.{Produced, produced, produced_by, produced_at}
 use Rattle.rpc_items.specs.Producing.{is_turn, turns_page, is_abort, aborts, is_aborted, is_open, page_count, is_producing, sequence_named}
-use Rattle.rpc_items.proofs.Answering.{same_id_eq}
 use Rattle.rpc_items.proofs.Paging.{produced_more}
+use Rattle.rpc_items.proofs.Numbered.{numbered_at}
+use Rattle.rpc_items.proofs.SameIds.{same_id_eq, same_id_refl}
 use Rattle.enumerables.specs.declared.sequence.Sequence.{Sequence}
-use Rattle.enumerables.specs.Producer.{changed, changed_at, paging, ending, turned, given_up, all_ended, with_sequence}
+use Rattle.enumerables.specs.Producer.{changed, paging, ending, turned, given_up, all_ended, with_sequence}
 use Rattle.enumerables.specs.Stands.{ProducerStands, IsAbort, left_of, sequence_after, sequence_at}
-use Rattle.enumerables.proofs.Places.{get_before, get_last, three_ways, changed_at_same, changed_at_other, length-changed_at, numbered_at}
 use Rattle.enumerables.proofs.Tokens.{names, named_parts, middle_part, last_part}
-
--- no sequence
-
-pub none_produced : ProducerStands [] []
-none_produced = record { count = refl; each = λ place. refl }
 
 -- an item that draws no token
 
@@ -167,9 +163,6 @@ other_token id token items d = by (same_id id (numbered_id token)) refl
     by false e = inl e
     by true e = inr (unnamed (is_producing token items) token (λ h. d (ap (λ (i : Id). sequence_named i items) (same_id_eq id (numbered_id token) e) ∙ h)))
 
-pub same_id_refl : (token : ℕ) → same_id (numbered_id token) (numbered_id token) ≡ true
-same_id_refl token = (Decides-int_eq (pos token) (pos token)).1 refl
-
 -- a page
 
 turned_left : (b : Bool) (pages : ℕ) (s : Produced) → are_left s (pages + 1) ≡ b → left_of b (pages + 1) s ≡ drop s.page (drop (s.first + pages * s.page) s.values)
@@ -205,7 +198,7 @@ turned_stands id i place method params sequences items means s =
         let n = page_count token items in
         let parts = named_parts id items token e in
         let open_ : is_open (Some p) n (is_running items) (is_aborted token items) ≡ true = ap (λ (o : Option Produced). is_open o n (is_running items) (is_aborted token items)) (sym at) ∙ parts.0 in
-        let turn : turns_page token item ≡ true = turns token ∙ (ap (λ (x : Id). same_id x (numbered_id token)) parts.1 ∙ same_id_refl token) in
+        let turn : turns_page token item ≡ true = turns token ∙ (ap (λ (x : Id). same_id x (numbered_id token)) parts.1 ∙ same_id_refl (numbered_id token)) in
         let pages : page_count token (item ∷ items) ≡ n + 1 = ap₂ (λ (a b : Bool). if a && b then n + 1 else n) turn parts.0 in
         let running : is_running (item ∷ items) ≡ true = middle_part (are_left p n) (is_running items) (is_aborted token items) open_ in
         let aborted : is_aborted token (item ∷ items) ≡ false = ap (λ (b : Bool). is_aborted token items || (is_some (produced_at token items) && b)) (no_abort token) ∙ (or_false (is_aborted token items) (is_some (produced_at token items)) ∙ last_part (are_left p n) (is_running items) (is_aborted token items) open_) in
@@ -254,7 +247,7 @@ given_up_stands id place message sequences items is s =
     this token e p at =
         let n = page_count token (item ∷ items) in
         let parts = named_parts id items token e in
-        let gone : aborts token item ≡ true = says.0 token ∙ (ap (λ (x : Id). same_id x (numbered_id token)) parts.1 ∙ same_id_refl token) in
+        let gone : aborts token item ≡ true = says.0 token ∙ (ap (λ (x : Id). same_id x (numbered_id token)) parts.1 ∙ same_id_refl (numbered_id token)) in
         let aborted : is_aborted token (item ∷ items) ≡ true = ap₂ (λ (o : Option Produced) (b : Bool). is_aborted token items || (is_some o && b)) at gone ∙ or_true (is_aborted token items) in
         let ends : is_producing token (item ∷ items) ≡ false = ap (λ (b : Bool). is_open (produced_at token (item ∷ items)) n (is_running items) b) aborted ∙ aborted_ends (produced_at token (item ∷ items)) n (is_running items) in
         ap (λ (b : Bool). record { page = p.page; left = left_of b n p }) ends

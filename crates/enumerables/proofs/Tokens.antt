@@ -5,6 +5,7 @@ use Rattle.std.proofs.lemmas.Bool.{cases_Bool, cases_lt, lt-ltb, ltb-true, lt-le
 use Rattle.wire_base.specs.Tree.{Tree}
 use Rattle.wire_base.specs.declared.text.Id.{Id}
 use Rattle.wire_base.specs.declared.text.Id.TheVariants.{Number, Name}
+use Rattle.wire_base.proofs.Places.{above_zero}
 use Rattle.rpc_items.specs.Drawn.{with_number}
 use Rattle.rpc_items.specs.Fitting.{page_to_come}
 use Rattle.rpc_items.specs.Ids.{numbered_id}
@@ -15,7 +16,6 @@ use Rattle.rpc_items.specs.Producing.{is_open, is_aborted, is_producing, page_co
 use Rattle.enumerables.specs.declared.sequence.Sequence.{Sequence}
 use Rattle.enumerables.specs.Producer.{has_left, named_in, page_of, page_if, page_at, page_in}
 use Rattle.enumerables.specs.Stands.{ProducerStands, left_of, sequence_after, next_page, next_page_of}
-use Rattle.enumerables.proofs.Places.{above_zero}
 
 -- the sequence with a token
 

@@ -1,5 +1,6 @@
 -- What is kept of the sequences that were answered, and what calls make of it.
-use Rattle.std.specs.Prelude.{ℕ, zero, suc, ◌-◌, pos, List, [], ◌∷◌, ◌++◌, length, take, drop, map, Bool, false, ◌&&◌, ◌==◌, nat_lt, nat_le, if◌then◌else◌, Option, Some, None}
+use Rattle.std.specs.Prelude.{ℕ, ◌-◌, pos, List, [], ◌∷◌, ◌++◌, length, take, drop, map, Bool, false, ◌&&◌, ◌==◌, nat_lt, nat_le, if◌then◌else◌, Option, Some, None}
+use Rattle.wire_base.specs.Lists.{changed_at}
 use Rattle.wire_base.specs.Tree.{Tree}
 use Rattle.wire_base.specs.declared.refusal.Refusal.{Refusal}
 use Rattle.wire_base.specs.declared.refusal.Refusal.TheVariants as refusal
@@ -37,12 +38,6 @@ page_at None sequences = None
 -- the next page of the live token that an id is
 abbrev pub page_in : Id → List Sequence → Option Tree
 page_in id sequences = page_at (named_in id sequences) sequences
-
--- the sequences, where the one at this place, from 0, becomes another
-abbrev pub changed_at : ℕ → (Sequence → Sequence) → List Sequence → List Sequence
-changed_at place change [] = []
-changed_at zero change (s ∷ sequences) = change s ∷ sequences
-changed_at (suc place) change (s ∷ sequences) = s ∷ changed_at place change sequences
 
 -- the sequence of the token that there may be becomes another
 abbrev pub changed : Option ℕ → (Sequence → Sequence) → List Sequence → List Sequence

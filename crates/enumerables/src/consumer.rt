@@ -1,8 +1,8 @@
 //! The sequences that are results of own requests.
 
 ghost use Rattle.enumerables.specs.Consumer.{adopted, cleared, following_refusal, found, paged, settled, token_at, turning, without};
-ghost use Rattle.enumerables.specs.Replies.{Checks};
 ghost use Rattle.enumerables.specs.Stands.{ConsumerStands};
+ghost use Rattle.rpc_items.specs.Checks.{Checks};
 ghost use Rattle.rpc_items.specs.Drawn.{asked_at, drawn};
 ghost use Rattle.rpc_items.specs.Items.{Abort, Did, End, Got, Next, RpcItem};
 ghost use Rattle.rpc_items.specs.Outcomes.{is_unanswered, response_in};

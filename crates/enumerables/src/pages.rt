@@ -1,13 +1,13 @@
 //! Sequences and their pages as values.
 
 ghost use Rattle.rpc_items.specs.Pages.{page_value, sequence_value};
-ghost use Rattle.rpc_items.specs.Sequences.{is_last_page, token_in, token_of};
+ghost use Rattle.rpc_items.specs.Sequences.{is_last_page, token_of};
 ghost use Rattle.rpc_items.specs.Values.{is_true};
 ghost use Rattle.std.specs.Option.{option_copied};
 ghost use Rattle.std.specs.Prelude.{◌≡◌, IfOk, Some};
 
 use rpc_items::Outcome;
-use rpc_message::id_in;
+use rpc_message::id_if;
 use std::alloc::Global;
 use wire_base::{Datum, DatumList, Id, Node, OutOfMemory, PairList, Text, Whole};
 
@@ -74,18 +74,8 @@ pub fn token_of(alloc: Global, outcome: &Outcome) -> Result<Option<Id>, OutOfMem
         return Ok(None);
     };
     match &value.node {
-        Node::Pairs(members) => token_in(alloc, members.last("token")),
+        Node::Pairs(members) => id_if(alloc, members.last("token")),
         _ => Ok(None),
-    }
-}
-
-/// The token that a member is, where there is one.
-fn token_in(alloc: Global, member: Option<&Datum>) -> Result<Option<Id>, OutOfMemory>
-    ensures { IfOk result (λ token. token ≡ token_in (option_copied member.entry)) }
-{
-    match member {
-        Some(token) => id_in(alloc, token),
-        None => Ok(None),
     }
 }
 

@@ -1,8 +1,8 @@
 //! The sequences that this end answered.
 
 ghost use Rattle.enumerables.specs.Producer.{all_ended, changed, ending, given_up, named_in, page_in, page_of, paging, produce_refusal, turned, with_sequence};
-ghost use Rattle.enumerables.specs.Replies.{Checks};
 ghost use Rattle.enumerables.specs.Stands.{IsAbort, ProducerStands, next_page};
+ghost use Rattle.rpc_items.specs.Checks.{Checks};
 ghost use Rattle.rpc_items.specs.Drawn.{with_number};
 ghost use Rattle.rpc_items.specs.Items.{Did, End, Got, Respond, RpcItem, is_running};
 ghost use Rattle.rpc_items.specs.Meanings.{meaning};
@@ -16,17 +16,17 @@ ghost use Rattle.rpc_items.specs.declared.methods.Meaning.TheVariants.{Turns};
 ghost use Rattle.std.specs.Option.{option_copied};
 ghost use Rattle.std.specs.Prelude.{◌≡◌, ◌<◌, ◌≤◌, ◌∷◌, [], IfOk, List, OnErr, OnOk, Some, length, true, ℕ};
 ghost use Rattle.wire_base.specs.declared.state.Cause.{Cause};
-ghost use Rattle.wire_base.specs.declared.text.Id.{Id as IdValue};
 
 use crate::left::Left;
 use crate::pages::page_value;
 use crate::sequence::Sequence;
+use rpc_items::MOST_DRAWN;
 use std::alloc::Global;
 use std::marker::Model;
 use wire_base::{Datum, DatumList, Id, OutOfMemory, Refusal};
 
 /// The most tokens that are drawn.
-const MOST_TOKENS: usize = 4_294_967_295;
+const MOST_TOKENS: usize = MOST_DRAWN as usize;
 
 /// The sequences that this end answered with a token.
 #[derive(Drop)]

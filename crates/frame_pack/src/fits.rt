@@ -1,7 +1,7 @@
 //! Which frames have a spelling, and how long their payloads are.
 
 ghost use Rattle.frame_text.specs.Codec.{is_packed};
-ghost use Rattle.frame_text.specs.Frames.{fits, fits_code, fits_id, fits_length, fits_origin, is_count, payload_text, str_text};
+ghost use Rattle.frame_text.specs.Frames.{fits, fits_code, fits_id, fits_origin, is_count, payload_text, str_text};
 ghost use Rattle.std.specs.Prelude.{◌≡◌, ◌<◌, ◌^◌, length, true, Some};
 ghost use Rattle.wire_base.specs.Shortest.{str_head, unsigned_text};
 

@@ -1,8 +1,7 @@
 //! Payloads. Inside one a token that runs past its end breaks a rule.
 
-ghost use Rattle.frame_text.specs.Reading.{Gives, Says, a_number, a_str, accepted_at, an_array, carried, count_in, ended, inner_at, last_in, name_at, offer_at, only, optional_at, processed_at, spoiled};
-ghost use Rattle.std.specs.Prelude.{◌≡◌, ◌<◌, length, Ok, Some};
-ghost use Rattle.wire_base.specs.Head.{head_of};
+ghost use Rattle.frame_text.specs.Reading.{Gives, Says, a_number, a_str, accepted_at, an_array, carried, count_in, ended, inner_at, last_in, name_at, offer_at, only, optional_at, processed_at};
+ghost use Rattle.std.specs.Prelude.{◌<◌, Ok, Some};
 ghost use Rattle.wire_base.specs.declared.reason.Reason.TheVariants.{BadOffer, BadAcceptance, BadProcessed};
 
 use std::alloc::Global;

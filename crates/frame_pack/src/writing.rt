@@ -2,8 +2,8 @@
 
 ghost use Rattle.frame_pack.specs.Parts.{front_text};
 ghost use Rattle.frame_text.specs.Codec.{is_packed};
-ghost use Rattle.frame_text.specs.Frames.{code_number, fits, origin_text, payload_text, str_text, text};
-ghost use Rattle.std.specs.Prelude.{◌≡◌, ◌<◌, ◌≤◌, ◌^◌, ◌++◌, length, true, OnOk, OnErr};
+ghost use Rattle.frame_text.specs.Frames.{fits, origin_text, payload_text, str_text, text};
+ghost use Rattle.std.specs.Prelude.{◌≡◌, ◌<◌, ◌^◌, ◌++◌, length, true, OnOk, OnErr};
 ghost use Rattle.wire_base.specs.Appends.{AppendsFront};
 
 use crate::fits::payload_len;

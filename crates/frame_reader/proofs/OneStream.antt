@@ -1,5 +1,5 @@
 -- Readings of one stream are one.
-use Rattle.std.proofs.Common.{◌≡◌, ◌≢◌, ℕ, ◌+◌, ◌-◌, ◌≤◌, Bool, List, [], ◌∷◌, ◌++◌, length, refl, sym, ap, subst, ◌∙◌, arith, length-append}
+use Rattle.std.proofs.Common.{◌≡◌, ◌≢◌, ℕ, ◌+◌, ◌-◌, ◌≤◌, Bool, List, [], ◌∷◌, ◌++◌, length, refl, sym, ap, ◌∙◌, arith, length-append}
 use Rattle.std.specs.List.{concat}
 use Rattle.wire_base.specs.declared.frame.Frame.{Frame}
 use Rattle.wire_base.specs.declared.frame.Version.{Version}
@@ -11,8 +11,8 @@ use Rattle.wire_base.proofs.GivenLemmas.{place_is, begins_more, first_given, sam
 use Rattle.frame_text.proofs.Laws.{broken_stays}
 use Rattle.frame_reader.specs.Unread.{Unread}
 use Rattle.frame_reader.specs.Reads.{frames, Begins, Reads, Follows, HasNone}
-use Rattle.frame_reader.specs.declared.next.Next.{Next}
-use Rattle.frame_reader.specs.declared.next.Next.TheVariants as next
+use Rattle.frame_reader.specs.declared.next_frame.NextFrame.{NextFrame}
+use Rattle.frame_reader.specs.declared.next_frame.NextFrame.TheVariants as next
 use Rattle.frame_reader.proofs.Streams.{Placed, frames_steady}
 
 -- where no whole frame stands behind them, they are all
@@ -40,19 +40,19 @@ pieces_left a b start pieces others given more v s h k le =
 -- ---- answers
 
 -- the answer by what stands at the front, whose first byte stands at a place
-pub answer_of : ℕ → Front → Next
+pub answer_of : ℕ → Front → NextFrame
 answer_of at (Whole frame size) = next.Frame (record { 0 = at }) frame
 answer_of at Short = next.Short
 answer_of at (Broken offset reason) = next.Refused (record { 0 = at + offset }) reason
 
-pub record Answered (v : Version) (start : ℕ) (stream : List ℕ) (given : List Placed) (answer : Next) : Type 0 where
+pub record Answered (v : Version) (start : ℕ) (stream : List ℕ) (given : List Placed) (answer : NextFrame) : Type 0 where
   pub rest : List ℕ
   pub at : ℕ
   pub begins : Begins v start stream given rest
   pub place_is : at + length rest ≡ start + length stream
   pub is : answer ≡ answer_of at (front v rest)
 
-answered : (v : Version) (start : ℕ) (stream : List ℕ) (given : List Placed) (answer : Next) → Follows v start stream given answer → answer ≢ next.OutOfMemory → Answered v start stream given answer
+answered : (v : Version) (start : ℕ) (stream : List ℕ) (given : List Placed) (answer : NextFrame) → Follows v start stream given answer → answer ≢ next.OutOfMemory → Answered v start stream given answer
 unfolding answer_of
 answered v start stream given (next.Frame place frame) h some =
     let last = last_given (frames v) (frames_steady v) start stream given (place.0, frame) h.0 h.1 in
@@ -69,7 +69,7 @@ answered v start stream given (next.Refused place reason) h some =
     record { rest = h.rest; at = at; begins = h.begins; place_is = omega arith; is = rw h.broken (ap (λ (p : Place). next.Refused p reason) (place_is place (record { 0 = at + h.offset }) there)) }
 answered v start stream given next.OutOfMemory h some = absurd (some refl)
 
-pub one_answer : (v : Version) (start : ℕ) (stream : List ℕ) (given : List Placed) (a b : Next) → Follows v start stream given a → Follows v start stream given b → a ≢ next.OutOfMemory → b ≢ next.OutOfMemory → a ≡ b
+pub one_answer : (v : Version) (start : ℕ) (stream : List ℕ) (given : List Placed) (a b : NextFrame) → Follows v start stream given a → Follows v start stream given b → a ≢ next.OutOfMemory → b ≢ next.OutOfMemory → a ≡ b
 one_answer v start stream given a b h k some other =
     let p = answered v start stream given a h some in
     let q = answered v start stream given b k other in

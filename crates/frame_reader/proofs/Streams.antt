@@ -1,5 +1,5 @@
 -- Readings of streams, as pieces come and frames go.
-use Rattle.std.proofs.Common.{◌≡◌, ℕ, ◌+◌, ◌<◌, ◌≤◌, ◌⊎◌, inl, inr, List, [], ◌∷◌, ◌++◌, length, drop, refl, sym, subst, ◌∙◌, arith, length-append, length-drop}
+use Rattle.std.proofs.Common.{◌≡◌, ℕ, ◌+◌, ◌<◌, ◌≤◌, ◌⊎◌, inl, inr, List, [], ◌∷◌, ◌++◌, length, drop, refl, sym, ◌∙◌, arith, length-append, length-drop}
 use Rattle.wire_base.specs.declared.frame.Frame.{Frame}
 use Rattle.wire_base.specs.declared.frame.Version.{Version}
 use Rattle.wire_base.specs.declared.place.Place.{Place}
@@ -12,10 +12,10 @@ use Rattle.frame_text.proofs.Within.{is_front-within}
 use Rattle.frame_text.proofs.Steady.{front-steady}
 use Rattle.frame_text.proofs.Laws.{front_within, broken_stays}
 use Rattle.frame_reader.specs.Unread.{Unread, with_piece, without_front, with_refusal}
-use Rattle.frame_reader.specs.Answers.{Answers, HasFrame, RefusesAt}
+use Rattle.frame_reader.specs.Answers.{AnswersFrame, HasFrame, RefusesAt}
 use Rattle.frame_reader.specs.Reads.{frames, Reads, Follows, given_with}
-use Rattle.frame_reader.specs.declared.next.Next.{Next}
-use Rattle.frame_reader.specs.declared.next.Next.TheVariants as next
+use Rattle.frame_reader.specs.declared.next_frame.NextFrame.{NextFrame}
+use Rattle.frame_reader.specs.declared.next_frame.NextFrame.TheVariants as next
 
 abbrev pub Placed : Type 0
 Placed = ℕ × Frame
@@ -49,14 +49,14 @@ reads-frame reader start stream given size frame h e =
 reads-refusal : (reader : Unread) (start : ℕ) (stream : List ℕ) (given : List Placed) → Reads reader start stream given → Reads (with_refusal reader) start stream given
 reads-refusal reader start stream given h = record { begins = h.begins; place_is = h.place_is; fed_is = h.fed_is }
 
-pub reads-answer : (answer : Next) (old new : Unread) (start : ℕ) (stream : List ℕ) (given : List Placed) → Answers answer old new → Reads old start stream given → Reads new start stream (given_with answer given)
+pub reads-answer : (answer : NextFrame) (old new : Unread) (start : ℕ) (stream : List ℕ) (given : List Placed) → AnswersFrame answer old new → Reads old start stream given → Reads new start stream (given_with answer given)
 reads-answer (next.Frame place frame) old new start stream given a h =
     rw (a.3, a.2) (reads-frame old start stream given a.0 frame h a.1)
 reads-answer next.Short old new start stream given a h = rw a.1 h
 reads-answer (next.Refused place reason) old new start stream given a h = rw a.1 (reads-refusal old start stream given h)
 reads-answer next.OutOfMemory old new start stream given a h = rw a h
 
-pub answer-follows : (answer : Next) (old new : Unread) (start : ℕ) (stream : List ℕ) (given : List Placed) → Answers answer old new → Reads old start stream given → Follows old.version start stream given answer
+pub answer-follows : (answer : NextFrame) (old new : Unread) (start : ℕ) (stream : List ℕ) (given : List Placed) → AnswersFrame answer old new → Reads old start stream given → Follows old.version start stream given answer
 answer-follows (next.Frame place frame) old new start stream given a h =
     let there : place.0 + length old.rest ≡ start + length stream = omega (arith, h.place_is, a.2) in
     (drop a.0 old.rest, begins_next (frames old.version) (frames_steady old.version) start stream given old.rest place.0 (place.0, frame) h.begins there (frame_first old.version place.0 old.rest frame a.0 a.1))
@@ -68,7 +68,7 @@ answer-follows next.OutOfMemory old new start stream given a h = tt
 pub refuses-more : (old new : Unread) (piece : List ℕ) (place : Place) (reason : Reason) → new ≡ with_piece piece old → RefusesAt old place reason → RefusesAt new place reason
 refuses-more old new piece place reason e h = rw e (record { offset = h.offset; broken = broken_stays old.version old.rest piece h.offset reason h.broken; place_is = h.place_is })
 
-pub refuses-again : (answer : Next) (old new : Unread) (place : Place) (reason : Reason) → Answers answer old new → RefusesAt old place reason → (answer ≡ next.Refused place reason) ⊎ (answer ≡ next.OutOfMemory)
+pub refuses-again : (answer : NextFrame) (old new : Unread) (place : Place) (reason : Reason) → AnswersFrame answer old new → RefusesAt old place reason → (answer ≡ next.Refused place reason) ⊎ (answer ≡ next.OutOfMemory)
 refuses-again (next.Frame at frame) old new place reason a h = absurd (let e : Whole frame a.0 ≡ Broken h.offset reason = sym a.1 ∙ h.broken in cc)
 refuses-again next.Short old new place reason a h = absurd (let short = a.0 in let broken = h.broken in cc)
 refuses-again (next.Refused at cause) old new place reason a h =
@@ -79,7 +79,7 @@ refuses-again (next.Refused at cause) old new place reason a h =
     inl cc
 refuses-again next.OutOfMemory old new place reason a h = inr refl
 
-pub shorter-frame : (old new : Unread) (place : Place) (frame : Frame) → Answers (next.Frame place frame) old new → length new.rest < length old.rest
+pub shorter-frame : (old new : Unread) (place : Place) (frame : Frame) → AnswersFrame (next.Frame place frame) old new → length new.rest < length old.rest
 shorter-frame old new place frame a =
     let within = front_within old.version old.rest frame a.0 a.1 in
     rw a.3 (omega (arith, within.0, within.1, length-drop a.0 old.rest))

@@ -6,8 +6,8 @@ use Rattle.wire_base.specs.declared.reason.Reason.{Reason}
 use Rattle.frame_text.specs.Front.{Whole, Short, Broken}
 use Rattle.frame_text.specs.Reading.{front}
 use Rattle.frame_reader.specs.Unread.{Unread, without_front, with_refusal}
-use Rattle.frame_reader.specs.declared.next.Next.{Next}
-use Rattle.frame_reader.specs.declared.next.Next.TheVariants as next
+use Rattle.frame_reader.specs.declared.next_frame.NextFrame.{NextFrame}
+use Rattle.frame_reader.specs.declared.next_frame.NextFrame.TheVariants as next
 
 -- what is unread breaks a rule, first by the token at this place
 pub record RefusesAt (reader : Unread) (place : Place) (reason : Reason) : Type 0 where
@@ -16,11 +16,11 @@ pub record RefusesAt (reader : Unread) (place : Place) (reason : Reason) : Type 
   pub place_is : place.0 ≡ reader.at + offset
 
 -- the answer is what stands at the front of the unread bytes. A frame is taken from them, and nothing else changes them; a refusal is kept in mind. Want of memory is free
-abbrev pub Answers : Next → (old new : Unread) → Type 0
-Answers (next.Frame place frame) old new = (size : ℕ) × (front old.version old.rest ≡ Whole frame size) × (place.0 ≡ old.at) × (new ≡ without_front size old)
-Answers next.Short old new = (front old.version old.rest ≡ Short) × (new ≡ old)
-Answers (next.Refused place reason) old new = RefusesAt old place reason × (new ≡ with_refusal old)
-Answers next.OutOfMemory old new = new ≡ old
+abbrev pub AnswersFrame : NextFrame → (old new : Unread) → Type 0
+AnswersFrame (next.Frame place frame) old new = (size : ℕ) × (front old.version old.rest ≡ Whole frame size) × (place.0 ≡ old.at) × (new ≡ without_front size old)
+AnswersFrame next.Short old new = (front old.version old.rest ≡ Short) × (new ≡ old)
+AnswersFrame (next.Refused place reason) old new = RefusesAt old place reason × (new ≡ with_refusal old)
+AnswersFrame next.OutOfMemory old new = new ≡ old
 
 -- a frame of so many bytes stands whole at the front
 abbrev pub HasFrame : (size : ℕ) → Unread → Type 0

@@ -8,8 +8,8 @@ use Rattle.wire_base.specs.Given.{Way}
 use Rattle.wire_base.specs.Given as given
 use Rattle.frame_text.specs.Reading.{front}
 use Rattle.frame_reader.specs.Unread.{Unread}
-use Rattle.frame_reader.specs.declared.next.Next.{Next}
-use Rattle.frame_reader.specs.declared.next.Next.TheVariants as next
+use Rattle.frame_reader.specs.declared.next_frame.NextFrame.{NextFrame}
+use Rattle.frame_reader.specs.declared.next_frame.NextFrame.TheVariants as next
 
 -- a frame is given with the place of its first byte
 abbrev pub frames : Version → Way Frame (ℕ × Frame)
@@ -26,7 +26,7 @@ pub record Reads (reader : Unread) (start : ℕ) (stream : List ℕ) (given : Li
   pub fed_is : reader.fed ≡ length stream
 
 -- the frames that are given after an answer
-abbrev pub given_with : Next → List (ℕ × Frame) → List (ℕ × Frame)
+abbrev pub given_with : NextFrame → List (ℕ × Frame) → List (ℕ × Frame)
 given_with (next.Frame place frame) given = given ++ (place.0, frame) ∷ []
 given_with next.Short given = given
 given_with (next.Refused place reason) given = given
@@ -45,7 +45,7 @@ pub record BreaksAfter (v : Version) (start : ℕ) (stream : List ℕ) (given : 
   pub place_is : place + length rest ≡ start + length stream + offset
 
 -- what the stream alone says that is answered after these frames; want of memory is free
-abbrev pub Follows : Version → (start : ℕ) → (stream : List ℕ) → (given : List (ℕ × Frame)) → Next → Type 0
+abbrev pub Follows : Version → (start : ℕ) → (stream : List ℕ) → (given : List (ℕ × Frame)) → NextFrame → Type 0
 Follows v start stream given (next.Frame place frame) = (rest : List ℕ) × Begins v start stream (given ++ (place.0, frame) ∷ []) rest
 Follows v start stream given next.Short = (rest : List ℕ) × Begins v start stream given rest × (front v rest ≡ Short)
 Follows v start stream given (next.Refused place reason) = BreaksAfter v start stream given place.0 reason

@@ -2,8 +2,8 @@
 
 ghost use Rattle.frame_reader.specs.Reads.{Begins, BreaksAfter, Follows, HasNone, Reads};
 ghost use Rattle.frame_reader.specs.Unread.{Unread};
-ghost use Rattle.frame_reader.specs.declared.next.Next.{Next};
-ghost use Rattle.frame_reader.specs.declared.next.Next.TheVariants as next;
+ghost use Rattle.frame_reader.specs.declared.next_frame.NextFrame.{NextFrame};
+ghost use Rattle.frame_reader.specs.declared.next_frame.NextFrame.TheVariants as next;
 ghost use Rattle.frame_text.specs.Spelling.{AreFrames, IsBrokenStream};
 ghost use Rattle.std.specs.List.{concat};
 ghost use Rattle.std.specs.Prelude.{◌≡◌, ◌≢◌, ◌≤◌, ◌++◌, ℕ, List, length};
@@ -30,7 +30,7 @@ pub fn pieces_are_one_stream()
 /// What is answered is determined by the stream and by how much of it was given, and nothing that comes later changes it.
 #[tactic(auto, using(crate::proofs::OneStream::answers))]
 pub fn stream_has_one_answer()
-    ensures one { (v : Version) (start : ℕ) (stream : List ℕ) (given : List (ℕ × Frame)) (a b : Next) →
+    ensures one { (v : Version) (start : ℕ) (stream : List ℕ) (given : List (ℕ × Frame)) (a b : NextFrame) →
         Follows v start stream given a → Follows v start stream given b →
         a ≢ next.OutOfMemory → b ≢ next.OutOfMemory → a ≡ b }
     ensures frame_stays { (v : Version) (start : ℕ) (stream more : List ℕ) (given : List (ℕ × Frame)) (place : Place) (frame : Frame) →

@@ -1,8 +1,8 @@
 //! A reader of frames from a stream that comes in pieces.
 
-ghost use Rattle.frame_reader.specs.Answers.{Answers, HasFrame, RefusesAt};
+ghost use Rattle.frame_reader.specs.Answers.{AnswersFrame, HasFrame, RefusesAt};
 ghost use Rattle.frame_reader.specs.Reads.{Follows, Reads, given_with};
-ghost use Rattle.frame_reader.specs.Unread.{with_piece, with_refusal, without_front};
+ghost use Rattle.frame_reader.specs.Unread.{with_piece, without_front};
 ghost use Rattle.frame_text.specs.Codec.{Decodes};
 ghost use Rattle.frame_text.specs.Frames.{fits};
 ghost use Rattle.frame_text.specs.Reading.{front};
@@ -11,7 +11,7 @@ ghost use Rattle.wire_base.specs.declared.frame.Frame.{Frame};
 ghost use Rattle.wire_base.specs.declared.place.Place.{Place};
 ghost use Rattle.wire_base.specs.declared.reason.Reason.{Reason};
 
-use crate::next::Next;
+use crate::next_frame::NextFrame;
 use frame_text::FrameCodec;
 use std::alloc::Global;
 use std::marker::Model;
@@ -88,11 +88,11 @@ impl<C: FrameCodec> FrameReader<C> {
 
     /// The next frame of all bytes fed.
     #[tactic(auto, using(crate::proofs::Streams::answers))]
-    pub fn next(&mut self) -> Next
-        ensures answer { Answers result self.old self.new }
+    pub fn next(&mut self) -> NextFrame
+        ensures answer { AnswersFrame result self.old self.new }
         ensures refuses { (place : Place) (reason : Reason) → RefusesAt self.old place reason →
-            (result ≡ Next.Refused place reason) ⊎ (result ≡ Next.OutOfMemory) }
-        ensures shorter { (place : Place) (frame : Frame) → result ≡ Next.Frame place frame →
+            (result ≡ NextFrame.Refused place reason) ⊎ (result ≡ NextFrame.OutOfMemory) }
+        ensures shorter { (place : Place) (frame : Frame) → result ≡ NextFrame.Frame place frame →
             length self.new.rest < length self.old.rest }
         // The answer is what the whole stream says, whatever pieces it came in.
         ensures follows { (start : ℕ) (stream : List ℕ) (given : List (ℕ × Frame)) → Reads self.old start stream given →
@@ -104,14 +104,14 @@ impl<C: FrameCodec> FrameReader<C> {
             FrameStep::Got(frame, size) => {
                 let place = self.at;
                 self.skip(size);
-                Next::Frame(place, frame)
+                NextFrame::Frame(place, frame)
             }
-            FrameStep::Short => Next::Short,
+            FrameStep::Short => NextFrame::Short,
             FrameStep::Refused(place, reason) => {
                 self.begun = true;
-                Next::Refused(place, reason)
+                NextFrame::Refused(place, reason)
             }
-            FrameStep::OutOfMemory => Next::OutOfMemory,
+            FrameStep::OutOfMemory => NextFrame::OutOfMemory,
         }
     }
 

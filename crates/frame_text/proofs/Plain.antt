@@ -288,9 +288,6 @@ plain_text_is f e =
       parts = refl;
     }
 
-pub front-plain_text : (f : Frame) (rest : List ℕ) → fits version.One f ≡ true → front version.One (text version.One f ++ rest) ≡ Whole f (length (text version.One f))
-front-plain_text f rest e = spelled_plain_front f (text version.One f) rest (plain_text_is f e)
-
 carries-fits : (c : Code) (p : Payload) (bytes : List ℕ) → CarriesPlain c p bytes → (fits_code version.One c p ≡ true) × (length (plain_payload p) ≤ length bytes)
 carries-fits code.Offer (payload.Offer name None) bytes is = (and_from (is_utf8 name) true is.1 refl, omega (arith, ap length is.0))
 carries-fits code.OfferAccepted (payload.Accepted None) bytes is = (refl, omega arith)

@@ -19,10 +19,7 @@ use Rattle.frame_text.specs.Codec.{is_packed, elements}
 use Rattle.wire_base.specs.Shortest.{unsigned_text, str_head, bin_head, array_head}
 use Rattle.wire_base.proofs.ShortestLemmas.{is_unsigned, is_str, is_bin}
 use Rattle.frame_text.specs.Frames.{code_number, origin_text, str_text, payload_text, payload_element, is_empty, is_count, fits_code, fits_id, fits_origin, fits_length, fits, text}
-use Rattle.frame_text.specs.Front.{Whole}
-use Rattle.frame_text.specs.Reading.{front}
 use Rattle.frame_text.specs.Spelling.{IsHead, IsNumber, IsOptional, with_optional, IsName, Carries, IsSource, IsElement, PackedFrameIs, FrameIs}
-use Rattle.frame_text.proofs.Again.{spelled_front}
 
 -- ---- payloads
 
@@ -183,6 +180,3 @@ pub text_is : (v : Version) (f : Frame) → is_packed v ≡ true → fits v f �
 text_is version.One f p e = absurd cc
 text_is version.Two f p e = text-packed version.Two f p e
 text_is version.Three f p e = text-packed version.Three f p e
-
-pub front-text : (v : Version) (f : Frame) (rest : List ℕ) → is_packed v ≡ true → fits v f ≡ true → front v (text v f ++ rest) ≡ Whole f (length (text v f))
-front-text v f rest p e = spelled_front v f (text v f) rest p (text_is v f p e)

@@ -1,5 +1,5 @@
 -- What fits in version 1.
-use Rattle.std.proofs.Common.{◌≡◌, ◌≤◌, ◌<◌, ◌++◌, true, length, arith, append_assoc}
+use Rattle.std.proofs.Common.{◌≡◌, ◌≤◌, ◌<◌, true, length, append_assoc}
 use Rattle.std.proofs.lemmas.Bool.{and_parts, leb-true, ltb-true}
 use Rattle.wire_base.specs.declared.limits.TheConstants.{MAX_PLAIN_PAYLOAD, PLAIN_ID_LIMIT}
 use Rattle.wire_base.specs.declared.frame.Version.TheVariants as version

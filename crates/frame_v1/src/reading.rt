@@ -3,7 +3,7 @@
 ghost use Rattle.frame_text.specs.Codec.{Decodes};
 ghost use Rattle.frame_text.specs.Reading.{Gives, Says, bytes_at, field_at, front, plain_at, plain_carried, plain_code, plain_content_at, plain_id};
 ghost use Rattle.std.specs.Int.{w8, w16, w32};
-ghost use Rattle.std.specs.Prelude.{◌≡◌, ◌≤◌, length, Some};
+ghost use Rattle.std.specs.Prelude.{◌≤◌, Some};
 ghost use Rattle.wire_base.specs.declared.reason.Reason.TheVariants.{BadCode, BadId, BadShape};
 
 use std::alloc::Global;

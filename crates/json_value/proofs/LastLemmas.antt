@@ -7,18 +7,16 @@ use Rattle.std.specs.declared.cmp.Ordering.{Ordering}
 use Rattle.std.specs.declared.cmp.Ordering.TheVariants.{Less, Equal, Greater}
 use Rattle.std.specs.Ordering.{match_ordering, ordering_reverse}
 use Rattle.std.specs.Str.{bytes_eq}
-use Rattle.wire_base.specs.Find.{last_of, or_else}
+use Rattle.wire_base.specs.Find.{last_of}
+use Rattle.wire_base.specs.Options.{or_else}
 use Rattle.wire_base.specs.Tree.{Tree, Pairs, no_pairs, pair, pairs_of, pair_list_of}
+use Rattle.wire_base.proofs.Finds.{or_else_none}
 use Rattle.json_value.specs.Normal.{key_cmp, put, norm, norm_onto, IsBefore, AreOrdered}
 use Rattle.json_value.proofs.NormLemmas.{IsNormal-norm, before_trans, ordered_put}
 
 -- a value, if the test holds
 abbrev at : Bool → Tree → Option Tree → Option Tree
 at b t rest = if b then Some t else rest
-
-or_none : (o : Option Tree) → or_else o None ≡ o
-or_none (Some t) = refl
-or_none None = refl
 
 module _ (k : List ℕ) where
   abbrev found_of : Pairs → Option Tree
@@ -33,7 +31,7 @@ module _ (k : List ℕ) where
 
   put_less : (b : Bool) (t : Tree) (ps : Pairs) → (b ≡ true → found_of ps ≡ None) → or_else (found_of ps) (at b t None) ≡ at b t (found_of ps)
   put_less true t ps h = rw (h refl) refl
-  put_less false t ps h = or_none (found_of ps)
+  put_less false t ps h = or_else_none (found_of ps)
 
   put_greater : (b : Bool) (t : Tree) (o rest : Option Tree) → or_else (at b t o) rest ≡ at b t (or_else o rest)
   put_greater true t o rest = refl
@@ -41,7 +39,7 @@ module _ (k : List ℕ) where
 
   put_equal : (b : Bool) (t u : Tree) (o : Option Tree) → (b ≡ true → o ≡ None) → or_else o (at b t None) ≡ at b t (or_else o (at b u None))
   put_equal true t u o h = rw (h refl) refl
-  put_equal false t u o h = or_none o ∙ sym (or_none o)
+  put_equal false t u o h = or_else_none o ∙ sym (or_else_none o)
 
   same_key : (i : List ℕ) → bytes_eq i k ≡ true → i ≡ k
   same_key i e = (bytes_eq-Decides i k).0 e
@@ -73,4 +71,4 @@ module _ (k : List ℕ) where
       ∙ one_more (last_of k ps) (bytes_eq p.0 k) p.1 (found_of found)
 
   pub last_of-norm : (ps : List (List ℕ × Tree)) → last_of k (pair_list_of (norm_onto no_pairs (pairs_of ps))) ≡ option_map norm (last_of k ps)
-  last_of-norm ps = last_of-norm_onto no_pairs ps tt ∙ or_none (option_map norm (last_of k ps))
+  last_of-norm ps = last_of-norm_onto no_pairs ps tt ∙ or_else_none (option_map norm (last_of k ps))

@@ -7,11 +7,13 @@ use Rattle.serde_json.specs.Data.{depth, items_depth, members_depth}
 use Rattle.serde_json.specs.Find.{of_integer}
 use Rattle.serde_json.specs.Read.{read, max_depth}
 use Rattle.serde_json.specs.Written.{has_float, items_have_float, members_have_float}
-use Rattle.wire_base.specs.Tree.{Tree, nil, flag, whole, words, bytes, items, pairs, Trees, no_items, item, Pairs, no_pairs, pair, trees_of, pairs_of, list_of, pair_list_of}
+use Rattle.wire_base.specs.Options.{or_else}
+use Rattle.wire_base.specs.Tree.{Tree, nil, flag, whole, words, bytes, items, pairs, Trees, no_items, item, Pairs, no_pairs, pair, list_of, pair_list_of}
 use Rattle.wire_base.specs.Values.{max_nesting, nesting, nestings, pair_nestings, holds_bytes, items_hold_bytes, pairs_hold_bytes}
+use Rattle.wire_base.proofs.Back.{trees_of-list_of, pairs_of-list_of}
 use Rattle.json_value.specs.Normal.{key_cmp, put, norm, norm_items, norm_onto}
 use Rattle.json_value.specs.Json.{data_of, data_items, data_members, shown}
-use Rattle.json_value.specs.Reading.{or_else, whole_of, tree_of, tree_list, pair_list, IsReading}
+use Rattle.json_value.specs.Reading.{whole_of, tree_of, tree_list, pair_list, IsReading}
 
 neither : (a b : Bool) → (a || b) ≡ false → (a ≡ false) × (b ≡ false)
 neither true b e = absurd cc
@@ -43,14 +45,6 @@ mutual
 whole_of-of_integer : (z : ℤ) → whole_of (of_integer z) ≡ Some z
 whole_of-of_integer (pos n) = elim (nat_lt n (2 ^ 63)) as (λ b. or_else (if b then Some (pos n) else None) (Some (pos n)) ≡ Some (pos n)) [ true ↦ refl | false ↦ refl ]
 whole_of-of_integer (negsuc n) = refl
-
-trees_of-list_of : (ts : Trees) → trees_of (list_of ts) ≡ ts
-trees_of-list_of no_items = refl
-trees_of-list_of (item t ts) = ap (item t) (trees_of-list_of ts)
-
-pairs_of-list_of : (ps : Pairs) → pairs_of (pair_list_of ps) ≡ ps
-pairs_of-list_of no_pairs = refl
-pairs_of-list_of (pair k t ps) = ap (pair k t) (pairs_of-list_of ps)
 
 mutual
   pub tree_of-data_of : (t : Tree) → holds_bytes t ≡ false → tree_of (data_of t) ≡ Some t

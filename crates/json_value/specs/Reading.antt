@@ -3,12 +3,8 @@ use Rattle.std.specs.Prelude.{◌≡◌, ℕ, ℤ, pos, List, [], ◌∷◌, Opt
 use Rattle.serde_json.specs.Data as json
 use Rattle.serde_json.specs.Read.{read}
 use Rattle.serde_json.specs.Find.{as_u64, as_i64}
+use Rattle.wire_base.specs.Options.{or_else}
 use Rattle.wire_base.specs.Tree.{Tree, nil, flag, whole, words, items, pairs, trees_of, pairs_of}
-
--- The first, or where there is none the second.
-abbrev pub or_else : Option ℤ → Option ℤ → Option ℤ
-or_else (Some z) second = Some z
-or_else None second = second
 
 -- The number as a whole one of 64 bits, where the crate's `as_i64` or `as_u64` gives it.
 abbrev pub whole_of : json.Num → Option ℤ

@@ -1,4 +1,4 @@
-ghost use Rattle.std.specs.Prelude.{◌≡◌, ◌↔◌, ◌<◌, ◌≤◌, ◌++◌, false, true, IsTrue, string_bytes, IsUtf8, IfOk, OnOk, OnErr, IsErrOf};
+ghost use Rattle.std.specs.Prelude.{◌≡◌, ◌↔◌, ◌<◌, ◌≤◌, ◌++◌, false, true, string_bytes, IsUtf8, IfOk, OnOk, OnErr, IsErrOf};
 ghost use Rattle.wire_base.specs.Tree.{trees_of, pairs_of, no_pairs};
 ghost use Rattle.serde_json.specs.Data.{put as put_member};
 ghost use Rattle.serde_json.specs.Find.{of_integer};

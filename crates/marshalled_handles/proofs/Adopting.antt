@@ -3,9 +3,10 @@ use Rattle.std.specs.Prelude.{◌||◌, Bool, true, false, bytes_eq, is_some, if
 use Rattle.std.specs.List.{list_any}
 use Rattle.std.proofs.Common.{◌≡◌, ℕ, ◌+◌, ◌<◌, List, [], ◌∷◌, ◌-◌, length, take, drop, get_or, refl, sym, ◌∙◌, ap, subst, arith, add-one, Some, None}
 use Rattle.std.proofs.lemmas.List.{take_rest}
-use Rattle.wire_base.specs.Find.{last_of, or_else}
+use Rattle.wire_base.specs.Find.{last_of}
 use Rattle.wire_base.specs.Tree.{Tree}
 use Rattle.wire_base.specs.declared.text.Id.{Id}
+use Rattle.wire_base.specs.Options.{or_else}
 use Rattle.rpc_items.specs.Objects.{last_values, offered_in}
 use Rattle.marshalled_handles.specs.declared.peer_handle.PeerHandle.{PeerHandle}
 use Rattle.marshalled_handles.specs.Holder.{Keeps, adopting_all, adopting_member, adopting_offer}

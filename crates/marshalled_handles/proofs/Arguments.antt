@@ -5,12 +5,12 @@ use Rattle.std.proofs.Common.{◌≡◌, ℕ, ◌+◌, List, ◌∷◌, refl, sy
 use Rattle.wire_base.specs.declared.refusal.Refusal.{Refusal}
 use Rattle.wire_base.specs.declared.refusal.Refusal.TheVariants as refusal
 use Rattle.wire_base.specs.declared.text.Id.{Id}
+use Rattle.wire_base.specs.Options.{or_else}
 use Rattle.rpc_items.specs.declared.calls.Answer.TheVariants as answer
 use Rattle.rpc_items.specs.declared.calls.Arg.{Arg}
 use Rattle.rpc_items.specs.declared.calls.Arguments.{Arguments}
 use Rattle.rpc_items.specs.declared.calls.Expect.{Expect}
 use Rattle.rpc_items.specs.Arguments.{args_refusal, handed, has_reserved, most_drawn}
-use Rattle.rpc_items.specs.Bodies.{or_else}
 use Rattle.rpc_items.specs.Drawn.{arg_list, drawn}
 use Rattle.rpc_items.specs.Handles.{has_ended, is_made}
 use Rattle.rpc_items.specs.Items.{RpcItem, Did, Ask, Tell, Respond, Invoke, is_running}

@@ -1,12 +1,13 @@
 -- Ends of own handles that come in another order.
 use Rattle.std.specs.Prelude.{◌==◌, Bool, true, false, map, if◌then◌else◌, zero, suc}
 use Rattle.std.proofs.Common.{◌≡◌, ℕ, ◌-◌, List, [], ◌∷◌, refl, sym, ◌∙◌, ap, ap₂, Some, None}
+use Rattle.wire_base.specs.Lists.{changed_at}
 use Rattle.rpc_items.specs.declared.calls.Arg.{Arg}
 use Rattle.rpc_items.specs.declared.calls.Arg.TheVariants as arg
 use Rattle.rpc_items.specs.declared.calls.Lifetime.TheVariants.{Call, Explicit}
 use Rattle.rpc_items.specs.Made.{Made, made_in}
 use Rattle.marshalled_handles.specs.declared.own_handle.OwnHandle.{OwnHandle}
-use Rattle.marshalled_handles.specs.Owner.{all_ended, answered, answering, ended_at, ending, fresh, is_until, released}
+use Rattle.marshalled_handles.specs.Owner.{all_ended, answered, answering, ending, fresh, is_until, released}
 
 -- a handle that has ended ends no more, and it ends once
 
@@ -45,14 +46,14 @@ pub answered_both : (n m : ℕ) (handles : List OwnHandle) → answered n (answe
 answered_both n m [] = refl
 answered_both n m (h ∷ handles) = ap₂ (λ (x : OwnHandle) (xs : List OwnHandle). x ∷ xs) (answering_both n m h) (answered_both n m handles)
 
-answered_ended_at : (n place : ℕ) (handles : List OwnHandle) → answered n (ended_at place handles) ≡ ended_at place (answered n handles)
-answered_ended_at n place [] = refl
-answered_ended_at n zero (h ∷ handles) = ap (λ (x : OwnHandle). x ∷ answered n handles) (answering_ended n h ∙ sym (ending_answered n h))
-answered_ended_at n (suc place) (h ∷ handles) = ap (λ (xs : List OwnHandle). answering n h ∷ xs) (answered_ended_at n place handles)
+answered_at : (n place : ℕ) (handles : List OwnHandle) → answered n (changed_at place ending handles) ≡ changed_at place ending (answered n handles)
+answered_at n place [] = refl
+answered_at n zero (h ∷ handles) = ap (λ (x : OwnHandle). x ∷ answered n handles) (answering_ended n h ∙ sym (ending_answered n h))
+answered_at n (suc place) (h ∷ handles) = ap (λ (xs : List OwnHandle). answering n h ∷ xs) (answered_at n place handles)
 
-answered_if : (n k : ℕ) (b : Bool) (handles : List OwnHandle) → answered n (if b then handles else ended_at k handles) ≡ (if b then answered n handles else ended_at k (answered n handles))
+answered_if : (n k : ℕ) (b : Bool) (handles : List OwnHandle) → answered n (if b then handles else changed_at k ending handles) ≡ (if b then answered n handles else changed_at k ending (answered n handles))
 answered_if n k true handles = refl
-answered_if n k false handles = answered_ended_at n k handles
+answered_if n k false handles = answered_at n k handles
 
 pub answered_released : (n number : ℕ) (handles : List OwnHandle) → answered n (released number handles) ≡ released number (answered n handles)
 answered_released n number handles = answered_if n (number - 1) (number == 0) handles

@@ -4,24 +4,25 @@ use Rattle.std.proofs.Common.{◌≡◌, ℕ, ◌<◌, ◌≤◌, List, [], ◌�
 use Rattle.std.proofs.lemmas.Bool.{cases_lt, eqb-true, ltb-true, ltb-false}
 use Rattle.wire_base.specs.Tree.{Tree}
 use Rattle.wire_base.specs.declared.text.Id.{Id}
+use Rattle.wire_base.specs.Options.{or_else}
+use Rattle.wire_base.proofs.Places.{eq_apart}
 use Rattle.rpc_items.specs.Objects.{Offered, offered_in}
-use Rattle.rpc_items.specs.Outcomes.{first_of}
 use Rattle.rpc_items.specs.PeerHandles.{Adopted, adopted_by, adopted_in, adopted_until, is_until}
 use Rattle.marshalled_handles.specs.declared.peer_handle.PeerHandle.{PeerHandle}
 use Rattle.marshalled_handles.specs.Holder.{AreAbove, AreRising, Keeps, adopting, adopting_all, adopting_if, adopting_offer, ending, found, fresh, placed, released, responding}
-use Rattle.marshalled_handles.proofs.Places.{eq_apart}
+use Rattle.marshalled_handles.proofs.Places.{option_same}
 
 -- options, of which the first counts
 
-pub first_none : {A : Type 0} (o : Option A) → first_of o None ≡ o
+pub first_none : {A : Type 0} (o : Option A) → or_else o None ≡ o
 first_none (Some x) = refl
 first_none None = refl
 
-first_twice : {A : Type 0} (a b c : Option A) → first_of (first_of a b) c ≡ first_of a (first_of b c)
+first_twice : {A : Type 0} (a b c : Option A) → or_else (or_else a b) c ≡ or_else a (or_else b c)
 first_twice (Some x) b c = refl
 first_twice None b c = refl
 
-map_first : {A B : Type 0} (f : A → B) (a b : Option A) → option_map f (first_of a b) ≡ first_of (option_map f a) (option_map f b)
+map_first : {A B : Type 0} (f : A → B) (a b : Option A) → option_map f (or_else a b) ≡ or_else (option_map f a) (option_map f b)
 map_first f (Some x) b = refl
 map_first f None b = refl
 
@@ -84,15 +85,15 @@ found_placed n new (h ∷ held) = by (nat_lt h.number new.number) refl (found_pl
 abbrev pub adopted_as : ℕ → Adopted → PeerHandle
 adopted_as number adopted = fresh number adopted.until
 
-pub found_adopting : (n number : ℕ) (until : Option Id) (held : List PeerHandle) → found n (adopting number until held) ≡ first_of (found n held) (if number == n then Some (fresh number until) else None)
+pub found_adopting : (n number : ℕ) (until : Option Id) (held : List PeerHandle) → found n (adopting number until held) ≡ or_else (found n held) (if number == n then Some (fresh number until) else None)
 found_adopting n number until held = by (found number held) refl (number == n) refl
   where
-    by : (o : Option PeerHandle) → found number held ≡ o → (b : Bool) → (number == n) ≡ b → found n (if is_some o then held else placed (fresh number until) held) ≡ first_of (found n held) (if b then Some (fresh number until) else None)
-    by (Some h) e true same = (let here : found n held ≡ Some h = ap (λ (k : ℕ). found k held) (sym (eqb-true number n same)) ∙ e in here ∙ sym (ap (λ (o : Option PeerHandle). first_of o (Some (fresh number until))) here))
+    by : (o : Option PeerHandle) → found number held ≡ o → (b : Bool) → (number == n) ≡ b → found n (if is_some o then held else placed (fresh number until) held) ≡ or_else (found n held) (if b then Some (fresh number until) else None)
+    by (Some h) e true same = (let here : found n held ≡ Some h = ap (λ (k : ℕ). found k held) (sym (eqb-true number n same)) ∙ e in here ∙ sym (ap (λ (o : Option PeerHandle). or_else o (Some (fresh number until))) here))
     by (Some h) e false apart = sym (first_none (found n held))
     by None e true same =
         let none : found n held ≡ None = ap (λ (k : ℕ). found k held) (sym (eqb-true number n same)) ∙ e in
-        found_placed n (fresh number until) held ∙ (ap (λ (b : Bool). if b then Some (fresh number until) else found n held) same ∙ sym (ap (λ (o : Option PeerHandle). first_of o (Some (fresh number until))) none))
+        found_placed n (fresh number until) held ∙ (ap (λ (b : Bool). if b then Some (fresh number until) else found n held) same ∙ sym (ap (λ (o : Option PeerHandle). or_else o (Some (fresh number until))) none))
     by None e false apart = found_placed n (fresh number until) held ∙ (ap (λ (b : Bool). if b then Some (fresh number until) else found n held) apart ∙ sym (first_none (found n held)))
 
 pub adopting_rises : (number : ℕ) (until : Option Id) (held : List PeerHandle) → AreRising held → AreRising (adopting number until held)
@@ -106,30 +107,30 @@ pub if_as : (n number : ℕ) (until : Option Id) (b : Bool) → (number == n) �
 if_as n number until true e = ap (λ (k : ℕ). Some (fresh k until)) (eqb-true number n e)
 if_as n number until false e = refl
 
-found_adopting_as : (n number : ℕ) (until : Option Id) (held : List PeerHandle) → found n (adopting number until held) ≡ first_of (found n held) (option_map (adopted_as n) (if number == n then Some (record { until = until }) else None))
-found_adopting_as n number until held = found_adopting n number until held ∙ ap (first_of (found n held)) (if_as n number until (number == n) refl)
+found_adopting_as : (n number : ℕ) (until : Option Id) (held : List PeerHandle) → found n (adopting number until held) ≡ or_else (found n held) (option_map (adopted_as n) (if number == n then Some (record { until = until }) else None))
+found_adopting_as n number until held = found_adopting n number until held ∙ ap (or_else (found n held)) (if_as n number until (number == n) refl)
 
 if_same : {A : Type 0} (b : Bool) (x : A) → (if b then x else x) ≡ x
 if_same true x = refl
 if_same false x = refl
 
-found_adopting_if : (n number : ℕ) (a : Option Adopted) (held : List PeerHandle) → found n (adopting_if number a held) ≡ first_of (found n held) (option_map (adopted_as n) (if number == n then a else None))
+found_adopting_if : (n number : ℕ) (a : Option Adopted) (held : List PeerHandle) → found n (adopting_if number a held) ≡ or_else (found n held) (option_map (adopted_as n) (if number == n then a else None))
 found_adopting_if n number (Some a) held = found_adopting_as n number a.until held
-found_adopting_if n number None held = sym (ap (λ (o : Option Adopted). first_of (found n held) (option_map (adopted_as n) o)) (if_same (number == n) None) ∙ first_none (found n held))
+found_adopting_if n number None held = sym (ap (λ (o : Option Adopted). or_else (found n held) (option_map (adopted_as n) o)) (if_same (number == n) None) ∙ first_none (found n held))
 
-found_offer : (n : ℕ) (request : Option Id) (o : Option Offered) (held : List PeerHandle) → found n (adopting_offer request o held) ≡ first_of (found n held) (option_map (adopted_as n) (adopted_by n request o))
+found_offer : (n : ℕ) (request : Option Id) (o : Option Offered) (held : List PeerHandle) → found n (adopting_offer request o held) ≡ or_else (found n held) (option_map (adopted_as n) (adopted_by n request o))
 found_offer n request (Some offered) held = found_adopting_if n offered.handle (adopted_until request offered.lifetime) held
 found_offer n request None held = sym (first_none (found n held))
 
-pub found_all : (n : ℕ) (request : Option Id) (values : List Tree) (held : List PeerHandle) → found n (adopting_all request values held) ≡ first_of (found n held) (option_map (adopted_as n) (adopted_in n request values))
+pub found_all : (n : ℕ) (request : Option Id) (values : List Tree) (held : List PeerHandle) → found n (adopting_all request values held) ≡ or_else (found n held) (option_map (adopted_as n) (adopted_in n request values))
 found_all n request [] held = sym (first_none (found n held))
 found_all n request (value ∷ values) held =
     let one = adopted_by n request (offered_in value) in
     let others = adopted_in n request values in
     found_all n request values (adopting_offer request (offered_in value) held)
-    ∙ (ap (λ (o : Option PeerHandle). first_of o (option_map (adopted_as n) others)) (found_offer n request (offered_in value) held)
+    ∙ (ap (λ (o : Option PeerHandle). or_else o (option_map (adopted_as n) others)) (found_offer n request (offered_in value) held)
     ∙ (first_twice (found n held) (option_map (adopted_as n) one) (option_map (adopted_as n) others)
-    ∙ sym (ap (first_of (found n held)) (map_first (adopted_as n) one others))))
+    ∙ sym (ap (or_else (found n held)) (map_first (adopted_as n) one others))))
 
 if_rises : (number : ℕ) (a : Option Adopted) (held : List PeerHandle) → AreRising held → AreRising (adopting_if number a held)
 if_rises number (Some a) held r = adopting_rises number a.until held r
@@ -145,7 +146,7 @@ all_rise request (value ∷ values) held r = all_rise request values (adopting_o
 
 -- what was adopted stays
 
-first_some : {A : Type 0} (a b : Option A) (x : A) → a ≡ Some x → first_of a b ≡ Some x
+first_some : {A : Type 0} (a b : Option A) (x : A) → a ≡ Some x → or_else a b ≡ Some x
 first_some (Some y) b x e = e
 first_some None b x e = absurd (cc e)
 
@@ -196,10 +197,6 @@ released_rises n (h ∷ held) r = by (h.number == n) (released_rises n held r.1)
 -- a handle that ends under a condition
 abbrev pub ending_if : Bool → PeerHandle → PeerHandle
 ending_if b h = if b then ending h else h
-
-option_same : {A : Type 0} (o : Option A) → o ≡ option_map (λ x. x) o
-option_same (Some x) = refl
-option_same None = refl
 
 pub unended : (b : Bool) (o : Option PeerHandle) → b ≡ false → o ≡ option_map (ending_if b) o
 unended b o e = option_same o ∙ sym (ap (λ (c : Bool). option_map (ending_if c) o) e)

@@ -4,6 +4,7 @@ use Rattle.std.proofs.Common.{◌≡◌, ℕ, List, [], ◌∷◌, refl, sym, �
 use Rattle.wire_base.specs.Tree.{Tree}
 use Rattle.wire_base.specs.declared.state.Cause.{Cause}
 use Rattle.wire_base.specs.declared.text.Id.{Id}
+use Rattle.wire_base.specs.Options.{or_else}
 use Rattle.rpc_items.specs.declared.calls.Answer.{Answer}
 use Rattle.rpc_items.specs.declared.calls.HandleKey.{HandleKey}
 use Rattle.rpc_items.specs.declared.messages.Message.{Message}
@@ -16,7 +17,7 @@ use Rattle.rpc_items.specs.Items.{RpcItem, Did, Got, End, Respond, Release}
 use Rattle.rpc_items.specs.Keys.{peer_key, same_key}
 use Rattle.rpc_items.specs.Meanings.{meaning}
 use Rattle.rpc_items.specs.Objects.{offered_in, whole_arguments}
-use Rattle.rpc_items.specs.Outcomes.{first_of, request_named}
+use Rattle.rpc_items.specs.Outcomes.{request_named}
 use Rattle.rpc_items.specs.OwnHandles.{is_release, releases}
 use Rattle.rpc_items.specs.PeerHandles.{Adopted, adopted, adopted_by, adopted_in, adoption, ends_adopted, ends_peer, is_service, is_until, peer_ended}
 use Rattle.rpc_items.specs.Waiting.{asks}
@@ -28,7 +29,7 @@ use Rattle.marshalled_handles.proofs.Owned.{or_false, release_releases, same_pee
 
 -- handles that weren't adopted
 
-first_was_none : {A : Type 0} (a b : Option A) → first_of a b ≡ None → a ≡ None
+first_was_none : {A : Type 0} (a b : Option A) → or_else a b ≡ None → a ≡ None
 first_was_none (Some x) b e = absurd (cc e)
 first_was_none None b e = refl
 
@@ -100,7 +101,7 @@ release_offers key number (Notification method params) items e = ap (λ (m : Mea
 release_offers key number m items e = absurd e
 
 pub release_adopts : (key : HandleKey) (number place : ℕ) (m : Message) (items : List RpcItem) → IsRelease key m → adopted number (Got place m ∷ items) ≡ adopted number items
-release_adopts key number place m items e = ap (first_of (adopted number items)) (release_offers key number m items e) ∙ first_none (adopted number items)
+release_adopts key number place m items e = ap (or_else (adopted number items)) (release_offers key number m items e) ∙ first_none (adopted number items)
 
 pub release_holds : (k place : ℕ) (m : Message) (held : List PeerHandle) (items : List RpcItem) → IsRelease (peer_key k) m → HolderStands held items → HolderStands (released k held) (Got place m ∷ items)
 release_holds k place m held items is s = released_hold k (Got place m) held items (λ number. release_adopts (peer_key k) number place m items is) (λ number until. release_releases (peer_key k) (peer_key number) m is) s
@@ -120,10 +121,10 @@ ended_holds cause held items s =
 -- handles are adopted
 
 -- a message that releases none adopts these
-pub adopted_hold : (place : ℕ) (m : Message) (held new : List PeerHandle) (items : List RpcItem) → ((number : ℕ) → releases (peer_key number) m ≡ false) → ((number : ℕ) → found number new ≡ first_of (found number held) (option_map (adopted_as number) (adoption number m items)))
+pub adopted_hold : (place : ℕ) (m : Message) (held new : List PeerHandle) (items : List RpcItem) → ((number : ℕ) → releases (peer_key number) m ≡ false) → ((number : ℕ) → found number new ≡ or_else (found number held) (option_map (adopted_as number) (adoption number m items)))
     → AreRising new → HolderStands held items → HolderStands new (Got place m ∷ items)
 adopted_hold place m held new items keeps are rises s = record {
-  each = λ number. are number ∙ (ap (λ (o : Option PeerHandle). first_of o (option_map (adopted_as number) (adoption number m items))) (s.each number) ∙ by number (adopted number items) refl);
+  each = λ number. are number ∙ (ap (λ (o : Option PeerHandle). or_else o (option_map (adopted_as number) (adoption number m items))) (s.each number) ∙ by number (adopted number items) refl);
   rising = rises;
 }
   where
@@ -133,7 +134,7 @@ adopted_hold place m held new items keeps are rises s = record {
         ap (λ (b : Bool). Some (held_with number a b)) (sym lives)
     later number None none = refl
 
-    by : (number : ℕ) (o : Option Adopted) → adopted number items ≡ o → first_of (option_map (held_after number items) o) (option_map (adopted_as number) (adoption number m items)) ≡ option_map (held_after number (Got place m ∷ items)) (first_of o (adoption number m items))
+    by : (number : ℕ) (o : Option Adopted) → adopted number items ≡ o → or_else (option_map (held_after number items) o) (option_map (adopted_as number) (adoption number m items)) ≡ option_map (held_after number (Got place m ∷ items)) (or_else o (adoption number m items))
     by number (Some a) e =
         let now : peer_ended number (Got place m ∷ items) ≡ peer_ended number items = ended_adopted number (Got place m) items a e ∙ (ap (λ (b : Bool). peer_ended number items || b) (keeps number) ∙ or_false (peer_ended number items)) in
         ap (λ (b : Bool). Some (held_with number a b)) (sym now)
@@ -142,13 +143,13 @@ adopted_hold place m held new items keeps are rises s = record {
 pub all_hold : (request : Option Id) (values : List Tree) (place : ℕ) (m : Message) (held : List PeerHandle) (items : List RpcItem) → Offers request values m items → HolderStands held items → HolderStands (adopting_all request values held) (Got place m ∷ items)
 all_hold request values place m held items o s =
     adopted_hold place m held (adopting_all request values held) items o.keeps
-    (λ number. found_all number request values held ∙ sym (ap (λ (a : Option Adopted). first_of (found number held) (option_map (adopted_as number) a)) (o.adopts number)))
+    (λ number. found_all number request values held ∙ sym (ap (λ (a : Option Adopted). or_else (found number held) (option_map (adopted_as number) a)) (o.adopts number)))
     (all_rise request values held s.rising) s
 
 pub one_holds : (number : ℕ) (until : Option Id) (place : ℕ) (m : Message) (held : List PeerHandle) (items : List RpcItem) → OffersOne number until m items → HolderStands held items → HolderStands (adopting number until held) (Got place m ∷ items)
 one_holds number until place m held items o s =
     adopted_hold place m held (adopting number until held) items o.keeps
-    (λ n. found_adopting n number until held ∙ (ap (first_of (found n held)) (if_as n number until (number == n) refl) ∙ sym (ap (λ (a : Option Adopted). first_of (found n held) (option_map (adopted_as n) a)) (o.adopts n))))
+    (λ n. found_adopting n number until held ∙ (ap (or_else (found n held)) (if_as n number until (number == n) refl) ∙ sym (ap (λ (a : Option Adopted). or_else (found n held) (option_map (adopted_as n) a)) (o.adopts n))))
     (adopting_rises number until held s.rising) s
 
 -- what messages offer

@@ -10,13 +10,15 @@ use Rattle.std.proofs.lemmas.List.Folds.{list_any-append}
 use Rattle.std.proofs.lemmas.Option.{slice_get-map}
 use Rattle.wire_base.specs.Tree.{Tree}
 use Rattle.wire_base.specs.declared.text.Id.{Id}
+use Rattle.wire_base.specs.Options.{or_else}
+use Rattle.wire_base.proofs.Places.{eq_apart, eq_refl}
 use Rattle.rpc_items.specs.declared.messages.Message.{Message}
 use Rattle.rpc_items.specs.declared.messages.Message.TheVariants.{Request, Notification}
 use Rattle.rpc_items.specs.declared.messages.Message.TheVariants as message
 use Rattle.rpc_items.specs.Items.{RpcItem, Did, Got, End}
 use Rattle.rpc_items.specs.Meanings.{meaning}
 use Rattle.rpc_items.specs.Objects.{Offered, offered_in, whole_arguments}
-use Rattle.rpc_items.specs.Outcomes.{first_of, request_named}
+use Rattle.rpc_items.specs.Outcomes.{request_named}
 use Rattle.rpc_items.specs.PeerHandles.{adopted, adopted_by, adopted_in, adopted_until, adoption, is_service}
 use Rattle.rpc_items.specs.Saying.{all_got}
 use Rattle.rpc_items.specs.Waiting.{asks}
@@ -25,7 +27,6 @@ use Rattle.marshalled_handles.specs.Holder.{AreAbove, AreRising, found, number_a
 use Rattle.marshalled_handles.specs.Numbers.{adopted_numbers, handle_of, handles_in, joined, rising}
 use Rattle.marshalled_handles.specs.Stands.{HolderStands, held_after}
 use Rattle.marshalled_handles.proofs.Owned.{or_true}
-use Rattle.marshalled_handles.proofs.Places.{eq_apart, eq_refl}
 
 -- whether a number is one of these
 abbrev pub among : ℕ → List ℕ → Bool
@@ -120,7 +121,7 @@ among_filter number test (n ∷ numbers) =
 
 -- a handle is adopted only where a message offers it
 
-either : {A : Type 0} (a b : Option A) (x y : Bool) → (is_some a ≡ true → x ≡ true) → (is_some b ≡ true → y ≡ true) → is_some (first_of a b) ≡ true → (x || y) ≡ true
+either : {A : Type 0} (a b : Option A) (x y : Bool) → (is_some a ≡ true → x ≡ true) → (is_some b ≡ true → y ≡ true) → is_some (or_else a b) ≡ true → (x || y) ≡ true
 either (Some one) b x y f g e = ap (λ (c : Bool). c || y) (f refl)
 either None b x y f g e = ap (λ (c : Bool). x || c) (g e) ∙ or_true x
 

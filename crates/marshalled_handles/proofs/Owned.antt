@@ -2,7 +2,7 @@
 use Rattle.std.specs.Prelude.{Bool, true, false, ◌&&◌, ◌||◌, ◌==◌, nat_lt, nat_le, is_some, is_none, if◌then◌else◌, pos, Option}
 use Rattle.std.specs.Ordering.{int_eq}
 use Rattle.std.proofs.Common.{◌≡◌, ℕ, ◌+◌, List, [], ◌∷◌, ◌++◌, length, refl, sym, ◌∙◌, ap, ap₂, inl, inr, arith, Some, None, le-leb, length-append}
-use Rattle.std.proofs.lemmas.Bool.{cases_Bool, and_from, and_parts, eq-eqb, eqb-true, lt-ltb, leb-true}
+use Rattle.std.proofs.lemmas.Bool.{cases_Bool, and_from, eq-eqb, eqb-true, lt-ltb}
 use Rattle.std.proofs.lemmas.Bool.Decides.{Decides-int_eq}
 use Rattle.std.proofs.lemmas.List.{append-nil}
 use Rattle.wire_base.specs.declared.text.Id.{Id}
@@ -16,15 +16,15 @@ use Rattle.rpc_items.specs.Ids.{numbered_id, same_id}
 use Rattle.rpc_items.specs.Items.{RpcCall, RpcItem, Did, Got, is_running}
 use Rattle.rpc_items.specs.Keys.{own_key, peer_key, same_key}
 use Rattle.rpc_items.specs.Made.{Made, made, made_by}
-use Rattle.rpc_items.specs.Outcomes.{answer_to, first_of, is_unanswered, response_in, response_to}
+use Rattle.rpc_items.specs.Outcomes.{answer_to, is_unanswered, response_in}
 use Rattle.rpc_items.specs.OwnHandles.{answers_carrier, ends_made, ends_own, is_release, own_ended, own_made, releases}
-use Rattle.rpc_items.proofs.Answering.{same_id_eq}
-use Rattle.rpc_items.proofs.Reported.{undrawn_before}
-use Rattle.rpc_items.proofs.Settling.{other, same}
+use Rattle.rpc_items.proofs.Settling.{other}
 use Rattle.rpc_items.proofs.Stable.{is_drawn_more}
+use Rattle.rpc_items.proofs.Numbered.{numbered_kept}
+use Rattle.rpc_items.proofs.SameIds.{same_id_eq}
+use Rattle.rpc_items.proofs.Undrawn.{call_same, next_undrawn, unanswered_undrawn}
 use Rattle.marshalled_handles.specs.Owner.{is_until}
 use Rattle.marshalled_handles.specs.Stands.{IsRelease}
-use Rattle.marshalled_handles.proofs.Places.{numbered_kept}
 
 pub or_false : (b : Bool) → (b || false) ≡ b
 or_false true = refl
@@ -148,26 +148,6 @@ pub response_ends : (r place : ℕ) (m : Message) (outcome : Outcome) → respon
 response_ends r place m outcome e number until = ap₂ (λ (a b : Bool). a || b) (response_lets r (own_key number) m outcome e) (response_carries r until m outcome e)
 
 -- own requests that wait
-
-no_drawing : (b c : Bool) (a o : Option Outcome) → c ≡ false → (if b && c then first_of a o else a) ≡ a
-no_drawing true true a o e = absurd (cc e)
-no_drawing true false a o e = refl
-no_drawing false c a o e = refl
-
-unanswered_undrawn : (n : ℕ) (items : List RpcItem) → is_drawn n items ≡ false → answer_to n items ≡ None
-unanswered_undrawn n [] e = refl
-unanswered_undrawn n (item ∷ items) e =
-    let before = undrawn_before n item items e in
-    no_drawing (is_running items) (is_drawn n items) (answer_to n items) (response_to n item) before ∙ unanswered_undrawn n items before
-
-next_undrawn : (items : List RpcItem) → is_drawn (drawn items + 1) items ≡ false
-next_undrawn items = elim (cases_Bool (is_drawn (drawn items + 1) items)) [
-  | inl h ↦ absurd (let le = leb-true (drawn items + 1) (drawn items) (and_parts (nat_lt 0 (drawn items + 1)) (nat_le (drawn items + 1) (drawn items)) h).1 in omega (arith, le))
-  | inr h ↦ h
-]
-
-call_same : (n : ℕ) (call : RpcCall) (items : List RpcItem) → answer_to n (Did call ∷ items) ≡ answer_to n items
-call_same n call items = same (is_running items && is_drawn n items) (answer_to n items)
 
 -- a request that a call draws waits
 pub drawn_waits : (call : RpcCall) (items : List RpcItem) → length (asked_by (Did call)) ≡ 1 → is_running items ≡ true → is_unanswered (drawn items + 1) (Did call ∷ items) ≡ true

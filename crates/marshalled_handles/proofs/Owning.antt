@@ -5,6 +5,7 @@ use Rattle.std.proofs.lemmas.Bool.{cases_Bool, cases_lt, eqb-true}
 use Rattle.std.proofs.lemmas.List.{length-map, map-append}
 use Rattle.std.proofs.lemmas.Option.{slice_get-map}
 use Rattle.wire_base.specs.declared.state.Cause.{Cause}
+use Rattle.wire_base.proofs.Places.{get_before, get_behind, get_past}
 use Rattle.rpc_items.specs.declared.calls.Answer.TheVariants as answer
 use Rattle.rpc_items.specs.declared.calls.Outcome.{Outcome}
 use Rattle.rpc_items.specs.declared.messages.Message.{Message}
@@ -14,12 +15,13 @@ use Rattle.rpc_items.specs.Keys.{own_key, same_key}
 use Rattle.rpc_items.specs.Made.{Made, made, made_by}
 use Rattle.rpc_items.specs.Outcomes.{is_unanswered, response_in}
 use Rattle.rpc_items.specs.OwnHandles.{ends_made, ends_own, own_ended, own_made}
+use Rattle.rpc_items.proofs.Numbered.{numbered_next}
 use Rattle.marshalled_handles.specs.declared.own_handle.OwnHandle.{OwnHandle}
 use Rattle.marshalled_handles.specs.Owner.{all_ended, answered, answering, ending, fresh, is_until, released}
 use Rattle.marshalled_handles.specs.Stands.{IsRelease, OwnerStands, own_after, own_at}
 use Rattle.marshalled_handles.proofs.Ending.{answered_both, answered_others, answered_over, answered_released, answered_twice, answered_untied, fresh_all}
 use Rattle.marshalled_handles.proofs.Owned.{drawn_waits, ended_made, made_same, message_waits, not_waiting, or_false, release_answers, release_ends, response_ends, response_one, same_own, unmade_lives}
-use Rattle.marshalled_handles.proofs.Places.{ending_if, get_before, get_behind, get_past, length-released, numbered_next, released_each, unended}
+use Rattle.marshalled_handles.proofs.Places.{ending_if, length-released, released_each, unended}
 
 -- handles end
 

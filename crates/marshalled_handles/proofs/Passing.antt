@@ -22,13 +22,13 @@ use Rattle.rpc_items.specs.OwnHandles.{is_release, releases}
 use Rattle.rpc_items.specs.PeerHandles.{adopted_by, adopted_in, adoption, ends_peer, is_service}
 use Rattle.rpc_items.specs.Waiting.{asks}
 use Rattle.rpc_items.proofs.Settling.{IsResponse}
+use Rattle.rpc_items.proofs.SameIds.{same_id_refl}
 use Rattle.marshalled_handles.specs.declared.own_handle.OwnHandle.{OwnHandle}
 use Rattle.marshalled_handles.specs.declared.peer_handle.PeerHandle.{PeerHandle}
 use Rattle.marshalled_handles.specs.Stands.{HolderStands, IsRelease, OwnerStands}
-use Rattle.marshalled_handles.proofs.Places.{eq_refl}
 use Rattle.marshalled_handles.proofs.Holding.{all_hold, release_adopts}
 use Rattle.marshalled_handles.proofs.Holding as holding
-use Rattle.marshalled_handles.proofs.Owned.{message_waits, no_carrier, not_waiting, own_is_not_peer, peer_is_not_own, release_answers, release_releases, same_numbered}
+use Rattle.marshalled_handles.proofs.Owned.{message_waits, no_carrier, not_waiting, own_is_not_peer, peer_is_not_own, release_answers, release_releases}
 use Rattle.marshalled_handles.proofs.Owning.{answered_stands, is_release_call}
 use Rattle.marshalled_handles.proofs.Owning as owning
 
@@ -69,13 +69,10 @@ if_not false n e = refl
 response_releases : (id : Id) (o : Outcome) (m : Message) → IsResponse id o m → (k : ℕ) → same_id id (numbered_id k) ≡ true → response_in k m ≡ Some o
 response_releases id o m is k e = is k ∙ ap (λ (b : Bool). if b then Some o else None) e
 
-eq_self : (k : ℕ) → same_id (numbered_id k) (numbered_id k) ≡ true
-eq_self k = same_numbered k k ∙ eq_refl k
-
 pub stray_leaves_owner : (handles : List OwnHandle) (place : ℕ) (id : Id) (o : Outcome) (m : Message) (items : List RpcItem) → IsResponse id o m → ((key : HandleKey) → releases key m ≡ false) → request_named id items ≡ None → OwnerStands handles items → OwnerStands handles (Got place m ∷ items)
 stray_leaves_owner handles place (Number (pos k)) o m items is keeps stray s =
     subst (λ (hs : List OwnHandle). OwnerStands hs (Got place m ∷ items)) (s.late k (if_not (is_unanswered k items) k stray))
-    (answered_stands k place m o handles items (response_releases (numbered_id k) o m is k (eq_self k)) s)
+    (answered_stands k place m o handles items (response_releases (numbered_id k) o m is k (same_id_refl (numbered_id k))) s)
 stray_leaves_owner handles place (Number (negsuc k)) o m items is keeps stray s = message_leaves_owner handles place m items (λ number. keeps (own_key number)) (λ n. is n) s
 stray_leaves_owner handles place (Name t) o m items is keeps stray s = message_leaves_owner handles place m items (λ number. keeps (own_key number)) (λ n. is n) s
 

@@ -3,6 +3,7 @@ use Rattle.std.specs.Prelude.{Bool, true, false, not, ◌&&◌, ◌==◌, nat_lt
 use Rattle.std.proofs.Common.{◌≡◌, ℕ, ◌+◌, ◌-◌, ◌<◌, inl, inr, le-leb, List, refl, sym, ◌∙◌, ap, Some, None, arith}
 use Rattle.std.proofs.lemmas.Bool.{cases_lt, le-ltb, lt-leb, lt-ltb}
 use Rattle.wire_base.specs.declared.refusal.Refusal.TheVariants as refusal
+use Rattle.wire_base.proofs.Places.{above_zero}
 use Rattle.rpc_items.specs.declared.calls.Answer.TheVariants as answer
 use Rattle.rpc_items.specs.declared.calls.HandleKey.{HandleKey}
 use Rattle.rpc_items.specs.declared.calls.Target.TheVariants as target
@@ -16,6 +17,7 @@ use Rattle.rpc_items.specs.Made.{Made, last_handle, made}
 use Rattle.rpc_items.specs.OwnHandles.{own_ended, own_live, own_made}
 use Rattle.rpc_items.specs.PeerHandles.{Adopted, adopted, peer_ended}
 use Rattle.rpc_items.specs.Refusals.{answer_refusal, handle_refusal}
+use Rattle.rpc_items.proofs.Numbered.{numbered_at}
 use Rattle.marshalled_handles.specs.declared.own_handle.OwnHandle.{OwnHandle}
 use Rattle.marshalled_handles.specs.declared.peer_handle.PeerHandle.{PeerHandle}
 use Rattle.marshalled_handles.specs.Holder as holder
@@ -23,7 +25,6 @@ use Rattle.marshalled_handles.specs.Owner.{end_of, living_object, object_in, roo
 use Rattle.marshalled_handles.specs.Owner as owner
 use Rattle.marshalled_handles.specs.Replies.{seen, seen_living, seen_refusal}
 use Rattle.marshalled_handles.specs.Stands.{HolderStands, OwnerStands, end_after, held_after, many_refusal, own_after, own_object}
-use Rattle.marshalled_handles.proofs.Places.{above_zero, numbered_at}
 
 -- by whether a handle has ended
 

@@ -1,5 +1,6 @@
 -- What is kept of the handles that this end made, and what calls make of it.
-use Rattle.std.specs.Prelude.{ℕ, zero, suc, ◌+◌, ◌-◌, List, [], ◌∷◌, ◌++◌, length, map, Bool, true, false, ◌==◌, nat_lt, option_map, if◌then◌else◌, Option, Some, None}
+use Rattle.std.specs.Prelude.{ℕ, ◌+◌, ◌-◌, List, [], ◌∷◌, ◌++◌, length, map, Bool, true, false, ◌==◌, nat_lt, option_map, if◌then◌else◌, Option, Some, None}
+use Rattle.wire_base.specs.Lists.{changed_at}
 use Rattle.wire_base.specs.declared.refusal.Refusal.{Refusal}
 use Rattle.wire_base.specs.declared.refusal.Refusal.TheVariants as refusal
 use Rattle.rpc_items.specs.Arguments.{most_drawn}
@@ -40,15 +41,9 @@ offered made handles = handles ++ (fresh made ∷ [])
 abbrev pub ending : OwnHandle → OwnHandle
 ending h = record h { ended = true }
 
--- the handles, where the one at this place, from 0, ends
-abbrev pub ended_at : (place : ℕ) → List OwnHandle → List OwnHandle
-ended_at place [] = []
-ended_at zero (h ∷ handles) = ending h ∷ handles
-ended_at (suc place) (h ∷ handles) = h ∷ ended_at place handles
-
 -- handle n ends, where it was made
 abbrev pub released : ℕ → List OwnHandle → List OwnHandle
-released number handles = if number == 0 then handles else ended_at (number - 1) handles
+released number handles = if number == 0 then handles else changed_at (number - 1) ending handles
 
 -- whether a handle ends with the response to this own request, by the one with whose response it does
 abbrev pub is_until : (request : ℕ) → Option ℕ → Bool

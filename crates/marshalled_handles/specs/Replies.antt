@@ -1,12 +1,7 @@
--- What calls answer.
-use Rattle.std.specs.Prelude.{◌≡◌, Bool, true, false, if◌then◌else◌, Option, Some, None, Result, Ok, Err}
+-- What is told of a handle, by whether it has ended.
+use Rattle.std.specs.Prelude.{Bool, true, false, if◌then◌else◌, Option, Some, None}
 use Rattle.wire_base.specs.declared.refusal.Refusal.{Refusal}
 use Rattle.wire_base.specs.declared.refusal.Refusal.TheVariants as refusal
-
--- a test is passed where nothing is refused, and else answers why
-abbrev pub Checks : {A : Type 0} → Option Refusal → Result A Refusal → Type 0
-Checks refused (Ok done) = refused ≡ None
-Checks refused (Err r) = refused ≡ Some r
 
 -- whether a handle has ended, where it is known
 abbrev pub seen : (known ended : Bool) → Option Bool

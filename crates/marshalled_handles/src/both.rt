@@ -1,8 +1,9 @@
 //! Handles of both sides.
 
 ghost use Rattle.marshalled_handles.specs.Both.{end_in, holder_released, owner_released};
-ghost use Rattle.marshalled_handles.specs.Replies.{Checks, seen_living, seen_refusal};
+ghost use Rattle.marshalled_handles.specs.Replies.{seen_living, seen_refusal};
 ghost use Rattle.marshalled_handles.specs.Stands.{HolderStands, IsRelease, OwnerStands, standing};
+ghost use Rattle.rpc_items.specs.Checks.{Checks};
 ghost use Rattle.rpc_items.specs.Handles.{is_live};
 ghost use Rattle.rpc_items.specs.Items.{Did, Got, Release, RpcItem};
 ghost use Rattle.rpc_items.specs.Refusals.{handle_refusal};

@@ -3,8 +3,9 @@
 ghost use Rattle.marshalled_handles.specs.Arguments.{handed_refusal, is_over_arg, is_unknown_arg};
 ghost use Rattle.marshalled_handles.specs.Holder.{AreRising, IsAt, IsGapFor, Keeps, adopting, adopting_all, adopting_if, adopting_member, adopting_offer, all_ended, end_in, found, number_at, released, responded};
 ghost use Rattle.marshalled_handles.specs.Numbers.{adopted_numbers};
-ghost use Rattle.marshalled_handles.specs.Replies.{Checks, seen_refusal};
+ghost use Rattle.marshalled_handles.specs.Replies.{seen_refusal};
 ghost use Rattle.marshalled_handles.specs.Stands.{HolderStands, IsRelease, Offers, OffersOne, end_after};
+ghost use Rattle.rpc_items.specs.Checks.{Checks};
 ghost use Rattle.rpc_items.specs.Items.{Did, End, Got, Release, Respond, RpcItem};
 ghost use Rattle.rpc_items.specs.Keys.{peer_key};
 ghost use Rattle.rpc_items.specs.Objects.{last_values, offered_in, whole_arguments};

@@ -1,9 +1,10 @@
 //! The handles that this end made.
 
 ghost use Rattle.marshalled_handles.specs.Arguments.{is_object, objects_refusal, offered_all};
-ghost use Rattle.marshalled_handles.specs.Owner.{all_ended, answered, end_in, ended_at, object_in, offered, released, room_refusal};
-ghost use Rattle.marshalled_handles.specs.Replies.{Checks, seen_refusal};
+ghost use Rattle.marshalled_handles.specs.Owner.{all_ended, answered, end_in, ending, object_in, offered, released, room_refusal};
+ghost use Rattle.marshalled_handles.specs.Replies.{seen_refusal};
 ghost use Rattle.marshalled_handles.specs.Stands.{IsRelease, OwnerStands, end_after, many_refusal, own_object};
+ghost use Rattle.rpc_items.specs.Checks.{Checks};
 ghost use Rattle.rpc_items.specs.Drawn.{with_number};
 ghost use Rattle.rpc_items.specs.Items.{Did, End, Got, Release, RpcItem};
 ghost use Rattle.rpc_items.specs.Keys.{own_key};
@@ -14,16 +15,17 @@ ghost use Rattle.rpc_items.specs.declared.calls.Outcome.{Outcome};
 ghost use Rattle.rpc_items.specs.declared.messages.Message.{Message};
 ghost use Rattle.std.specs.Option.{option_copied};
 ghost use Rattle.std.specs.Prelude.{◌≡◌, ◌∷◌, [], List, OnErr, OnOk, Some, filter, length, ℕ};
+ghost use Rattle.wire_base.specs.Lists.{changed_at};
 ghost use Rattle.wire_base.specs.declared.state.Cause.{Cause};
 
 use crate::own_handle::OwnHandle;
-use rpc_items::{Arg, Lifetime};
+use rpc_items::{Arg, Lifetime, MOST_DRAWN};
 use std::alloc::Global;
 use std::marker::Model;
 use wire_base::{OutOfMemory, Refusal};
 
 /// The most handles that are made.
-const MOST_HANDLES: usize = 4_294_967_295;
+const MOST_HANDLES: usize = MOST_DRAWN as usize;
 
 /// Whether an argument is an object.
 fn is_object(arg: &Arg) -> bool
@@ -235,7 +237,7 @@ impl Owner {
 
     /// The handle at this place ends, where there is one.
     fn end_at(&mut self, place: usize)
-        ensures { self.new ≡ ended_at place self.old }
+        ensures { self.new ≡ changed_at place ending self.old }
     {
         if place < self.handles.len() {
             self.handles[place].end();

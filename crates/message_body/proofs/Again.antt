@@ -93,9 +93,9 @@ read_again Json m w =
     let t = message_value m in
     let fits = fitting (encoder Json) t w.accepted in
     let found = reading_found (json_text t) (norm t) (IsReading-json_text t w.message.value fits.nests fits.bytes) in
-    ap (λ x. message_found (at_start x)) found ∙ ap at_start (norm_says t m (written m w.message.sayable))
+    ap (λ x. message_found (at_start x)) found ∙ ap at_start (norm_says t m (written m w.message.can_be_told))
 read_again Pack m w =
     let t = message_value m in
     let fits = fitting (encoder Pack) t w.accepted in
     let spelled = shortest_is_spelling t (spellable t w.message.value (parts_fit t fits.size)) fits.nests in
-    ap message_found (spelling_found (shortest t) t spelled) ∙ ap at_start (written m w.message.sayable)
+    ap message_found (spelling_found (shortest t) t spelled) ∙ ap at_start (written m w.message.can_be_told)

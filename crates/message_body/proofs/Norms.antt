@@ -9,14 +9,14 @@ use Rattle.wire_base.specs.declared.text.Id.{Id}
 use Rattle.json_value.specs.Normal.{norm, norm_items, norm_onto}
 use Rattle.json_value.proofs.LastLemmas.{last_of-norm}
 use Rattle.json_value.proofs.NormLemmas.{norm-norm}
-use Rattle.pack_value.proofs.Lists.{pairs_of-list_of}
+use Rattle.wire_base.proofs.Back.{pairs_of-list_of}
 use Rattle.rpc_items.specs.declared.messages.Params.{Params}
 use Rattle.rpc_items.specs.declared.messages.Params.TheVariants.{Named}
 use Rattle.rpc_items.specs.declared.messages.Params.TheVariants as params
 use Rattle.rpc_items.specs.declared.messages.Message.{Message}
 use Rattle.rpc_items.specs.declared.messages.Message.TheVariants as message
-use Rattle.rpc_items.specs.Ids.{is_id_number, id_in}
-use Rattle.rpc_items.specs.Reading.{is_version, unless_nil, id_or_bad, optional_id, params_in, call_with, call_in, result_with, required_id, error_with, response_with, by_method, message_in}
+use Rattle.rpc_items.specs.Ids.{is_id_number, id_in, id_if}
+use Rattle.rpc_items.specs.Reading.{is_version, unless_nil, id_or_bad, optional_id, params_in, call_with, call_in, result_with, error_with, response_with, by_method, message_in}
 use Rattle.rpc_items.specs.Values.{member}
 use Rattle.message_body.specs.declared.encoding.Encoding.{Encoding}
 use Rattle.message_body.specs.declared.encoding.Encoding.TheVariants.{Json, Pack}
@@ -75,9 +75,9 @@ optional_id-norm : (o : Option Tree) → optional_id (option_map norm o) ≡ opt
 optional_id-norm None = refl
 optional_id-norm (Some t) = ap id_or_bad (id_in-norm t)
 
-required_id-norm : (o : Option Tree) → required_id (option_map norm o) ≡ required_id o
-required_id-norm None = refl
-required_id-norm (Some t) = id_in-norm t
+id_if-norm : (o : Option Tree) → id_if (option_map norm o) ≡ id_if o
+id_if-norm None = refl
+id_if-norm (Some t) = id_in-norm t
 
 abbrev with_params : Result Params Reason → Result Params Reason
 with_params (Ok given) = Ok (norm_params given)
@@ -142,7 +142,7 @@ error_with-norm (Ok id) (Some (whole z)) (Some (items ts)) more = refl
 error_with-norm (Ok id) (Some (whole z)) (Some (pairs ps)) more = refl
 
 response_with-norm : (id result error : Option Tree) → response_with (option_map norm id) (option_map norm result) (option_map norm error) ≡ normed (response_with id result error)
-response_with-norm id (Some value) None = rw (required_id-norm id) (result_with-norm (required_id id) value)
+response_with-norm id (Some value) None = rw (id_if-norm id) (result_with-norm (id_if id) value)
 response_with-norm id None (Some error) =
     rw (unless_nil-norm id, optional_id-norm (unless_nil id), member-norm (codes "code") error, member-norm (codes "message") error, member-norm (codes "data") error)
     (error_with-norm (optional_id (unless_nil id)) (member (codes "code") error) (member (codes "message") error) (member (codes "data") error))

@@ -4,7 +4,7 @@ use Rattle.wire_base.specs.Tree.{Tree, nil, flag, whole, words, bytes, items, pa
 use Rattle.json_value.specs.Value.{IsValue, AreValues, ArePairs}
 use Rattle.pack_value.specs.Shortest as pack
 use Rattle.rpc_items.specs.declared.messages.Message.{Message}
-use Rattle.rpc_items.specs.Sayable.{HasNamedId, IsSayable}
+use Rattle.rpc_items.specs.Told.{CanBeTold, HasNamedId}
 use Rattle.rpc_items.specs.Writing.{message_value}
 use Rattle.message_body.specs.AsRead.{IsMessage}
 
@@ -30,5 +30,5 @@ mutual
 
 -- a message whose value is one of the code
 
-pub valued_message : (m : Message) (t : Tree) → t ≡ message_value m → (HasNamedId m → IsSayable m) → IsValue t → HasNamedId m → IsMessage m
-valued_message m t e says v named = record { sayable = says named; value = rw (← e) v }
+pub valued_message : (m : Message) (t : Tree) → t ≡ message_value m → (HasNamedId m → CanBeTold m) → IsValue t → HasNamedId m → IsMessage m
+valued_message m t e says v named = record { can_be_told = says named; value = rw (← e) v }

@@ -30,7 +30,7 @@ members = (IsUtf8-from_is_utf8 _ refl, IsUtf8-from_is_utf8 _ refl, (IsUtf8-from_
 told_is : IsMessage told
 unfolding is_utf8 chars encode
 told_is = record {
-  sayable = tt;
+  can_be_told = tt;
   value = (IsUtf8-from_is_utf8 _ refl, IsUtf8-from_is_utf8 _ refl, (IsUtf8-from_is_utf8 _ refl, IsUtf8-from_is_utf8 _ refl, (IsUtf8-from_is_utf8 _ refl, members, tt)));
 }
 

@@ -10,7 +10,7 @@ use Rattle.rpc_items.specs.declared.messages.Message.{Message}
 use Rattle.rpc_items.specs.declared.messages.Message.TheVariants.{Request, Notification}
 use Rattle.rpc_items.specs.declared.messages.Message.TheVariants as message
 use Rattle.rpc_items.specs.Bodies.{body_refusal}
-use Rattle.rpc_items.specs.Sayable.{IsSayable}
+use Rattle.rpc_items.specs.Told.{CanBeTold}
 use Rattle.rpc_items.specs.Writing.{message_value}
 use Rattle.message_body.specs.declared.encoding.Encoding.{Encoding}
 use Rattle.message_body.specs.declared.encoding.Encoding.TheVariants.{Json, Pack}
@@ -41,7 +41,7 @@ as_read Pack m = m
 -- what may stand in a message of the code: its id and its error's code are such, its numbers are in their range, and
 -- its texts are UTF-8
 pub record IsMessage (m : Message) : Type 0 where
-  pub sayable : IsSayable m
+  pub can_be_told : CanBeTold m
   pub value : IsValue (message_value m)
 
 -- each of these is one

@@ -5,7 +5,7 @@ ghost use Rattle.json_value.specs.Json.{json_text};
 ghost use Rattle.json_value.specs.Value.{IsValue};
 ghost use Rattle.pack_value.specs.Shortest.{shortest};
 ghost use Rattle.rpc_items.specs.Bodies.{body_refusal, most_body};
-ghost use Rattle.rpc_items.specs.Sayable.{HasNamedId};
+ghost use Rattle.rpc_items.specs.Told.{HasNamedId};
 ghost use Rattle.rpc_items.specs.Writing.{message_value};
 ghost use Rattle.message_body.specs.AsRead.{IsMessage};
 ghost use Rattle.message_body.specs.Replies.{Puts, Writes};
@@ -18,10 +18,7 @@ use pack_value::{EncodeFault, encode};
 use rpc_items::Message;
 use rpc_message::to_datum;
 use std::alloc::Global;
-use wire_base::{CallFault, Datum, Refusal, holds_bytes};
-
-/// The most bytes of a body.
-const MAX_BODY: usize = 16_777_216;
+use wire_base::{CallFault, Datum, MAX_BODY, Refusal, holds_bytes};
 
 /// Appends a value's JSON text, whatever its length.
 fn put_json(alloc: Global, value: &Datum, out: &mut Vec<u8>) -> Result<(), CallFault>
@@ -89,7 +86,7 @@ fn put_body(
 {
     let start = out.len();
     append(alloc, encoding, value, out)?;
-    if out.len() - start > MAX_BODY {
+    if out.len() - start > MAX_BODY as usize {
         out.truncate(start);
         return Err(CallFault::Refused(Refusal::BodyTooLong));
     }

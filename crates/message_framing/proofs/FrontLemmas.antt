@@ -6,13 +6,15 @@ use Rattle.std.proofs.lemmas.Bool.{cases_lt, le-ltb, lt-ltb, ne_eqb}
 use Rattle.std.proofs.Math.Seq.{take-append-add}
 use Rattle.std.proofs.lemmas.List.{take-append-le, take_all, length-take}
 use Rattle.wire_base.specs.declared.reason.Reason.{Reason}
+use Rattle.wire_base.specs.declared.limits.TheConstants.{MAX_BODY}
+use Rattle.message_framing.specs.declared.reading.TheConstants.{MAX_HEADER}
 use Rattle.message_framing.specs.declared.framing.Framing.{Framing}
 use Rattle.message_framing.specs.declared.framing.Framing.TheVariants as framing
 use Rattle.message_framing.specs.declared.front.Front.{Front}
 use Rattle.message_framing.specs.declared.front.Front.TheVariants.{Whole, Short, Broken}
 use Rattle.message_framing.specs.Lines.{header_lines}
-use Rattle.message_framing.specs.Header.{header_of, max_body}
-use Rattle.message_framing.specs.Front.{max_header, behind, by_header, length_in, IsWithin, header_front, length_front, front}
+use Rattle.message_framing.specs.Header.{header_of}
+use Rattle.message_framing.specs.Front.{behind, by_header, length_in, IsWithin, header_front, length_front, front}
 use Rattle.message_framing.proofs.Parts.{header_stays, part_within}
 use Rattle.message_framing.proofs.HeaderLemmas.{IsLength, header_is_length, header_is_part}
 
@@ -60,66 +62,66 @@ Lines = List (List ℕ)
 -- a header that was found stays, and where none was found among as many bytes as a header may have, none is
 pub record Goes (len : ℕ) (old new : Option Lines) : Type 0 where
   pub some : (lines : Lines) → old ≡ Some lines → new ≡ Some lines
-  pub none : old ≡ None → max_header ≤ len → new ≡ None
+  pub none : old ≡ None → MAX_HEADER ≤ len → new ≡ None
 
-too_few : (n : ℕ) → n < max_header → max_header ≤ n → ⊥
+too_few : (n : ℕ) → n < MAX_HEADER → MAX_HEADER ≤ n → ⊥
 too_few n lt le = omega arith
 
-goes : (b more : List ℕ) → Goes (length b) (header_lines (take max_header b)) (header_lines (take max_header (b ++ more)))
-goes b more = elim (cases_lt (length b) max_header) [
+goes : (b more : List ℕ) → Goes (length b) (header_lines (take MAX_HEADER b)) (header_lines (take MAX_HEADER (b ++ more)))
+goes b more = elim (cases_lt (length b) MAX_HEADER) [
   | inl lt ↦
-      let all : take max_header b ≡ b = take_all max_header b (omega arith) in
-      let count : max_header ≡ length b + (max_header - length b) = omega arith in
-      let both : take max_header (b ++ more) ≡ b ++ take (max_header - length b) more = ap (λ k. take k (b ++ more)) count ∙ take-append-add b more (max_header - length b) in
+      let all : take MAX_HEADER b ≡ b = take_all MAX_HEADER b (omega arith) in
+      let count : MAX_HEADER ≡ length b + (MAX_HEADER - length b) = omega arith in
+      let both : take MAX_HEADER (b ++ more) ≡ b ++ take (MAX_HEADER - length b) more = ap (λ k. take k (b ++ more)) count ∙ take-append-add b more (MAX_HEADER - length b) in
       record {
-        some = λ lines e. ap header_lines both ∙ header_stays b (take (max_header - length b) more) lines (sym (ap header_lines all) ∙ e);
+        some = λ lines e. ap header_lines both ∙ header_stays b (take (MAX_HEADER - length b) more) lines (sym (ap header_lines all) ∙ e);
         none = λ _ le. absurd (too_few (length b) lt le);
       }
   | inr ge ↦
-      let same : take max_header (b ++ more) ≡ take max_header b = take-append-le max_header b more ge in
+      let same : take MAX_HEADER (b ++ more) ≡ take MAX_HEADER b = take-append-le MAX_HEADER b more ge in
       record { some = λ lines e. ap header_lines same ∙ e; none = λ e le. ap header_lines same ∙ e }
 ]
 
 header_whole : (len more : ℕ) (old new : Option Lines) (a b : ℕ) → len ≤ more → Goes len old new → by_header len (option_map header_of old) ≡ Whole a b → by_header more (option_map header_of new) ≡ Whole a b
 header_whole len more (Some lines) new a b le g e = rw (g.some lines refl) (behind_stays len more (header_of lines).size (header_of lines).length a b le e)
-header_whole len more None new a b le g e = elim (cases_lt len max_header) [
-  | inl lt ↦ absurd (let f = lt-ltb len max_header lt in cc)
-  | inr ge ↦ absurd (let f = le-ltb len max_header ge in cc)
+header_whole len more None new a b le g e = elim (cases_lt len MAX_HEADER) [
+  | inl lt ↦ absurd (let f = lt-ltb len MAX_HEADER lt in cc)
+  | inr ge ↦ absurd (let f = le-ltb len MAX_HEADER ge in cc)
 ]
 
 header_broken : (len more : ℕ) (old new : Option Lines) (offset : ℕ) (reason : Reason) → len ≤ more → Goes len old new → by_header len (option_map header_of old) ≡ Broken offset reason → by_header more (option_map header_of new) ≡ Broken offset reason
 header_broken len more (Some lines) new offset reason le g e = rw (g.some lines refl) (behind_broken len more (header_of lines).size (header_of lines).length offset reason e)
-header_broken len more None new offset reason le g e = elim (cases_lt len max_header) [
-  | inl lt ↦ absurd (let f = lt-ltb len max_header lt in cc)
-  | inr ge ↦ let f = le-ltb len max_header ge in rw (g.none refl ge, le-ltb more max_header (omega arith)) (cc)
+header_broken len more None new offset reason le g e = elim (cases_lt len MAX_HEADER) [
+  | inl lt ↦ absurd (let f = lt-ltb len MAX_HEADER lt in cc)
+  | inr ge ↦ let f = le-ltb len MAX_HEADER ge in rw (g.none refl ge, le-ltb more MAX_HEADER (omega arith)) (cc)
 ]
 
 no_whole : (len a b : ℕ) → by_header len None ≡ Whole a b → ⊥
-no_whole len a b e = elim (cases_lt len max_header) [
-  | inl lt ↦ let f = lt-ltb len max_header lt in cc
-  | inr ge ↦ let f = le-ltb len max_header ge in cc
+no_whole len a b e = elim (cases_lt len MAX_HEADER) [
+  | inl lt ↦ let f = lt-ltb len MAX_HEADER lt in cc
+  | inr ge ↦ let f = le-ltb len MAX_HEADER ge in cc
 ]
 
 header_cut : (len more : ℕ) (old new : Option Lines) (a b : ℕ) → Goes len old new → by_header more (option_map header_of new) ≡ Whole a b → len < a + b → by_header len (option_map header_of old) ≡ Short
 header_cut len more (Some lines) new a b g e lt =
     behind_cut len more (header_of lines).size (header_of lines).length a b (sym (ap (λ o. by_header more (option_map header_of o)) (g.some lines refl)) ∙ e) lt
-header_cut len more None new a b g e lt = elim (cases_lt len max_header) [
-  | inl small ↦ rw (lt-ltb len max_header small) refl
+header_cut len more None new a b g e lt = elim (cases_lt len MAX_HEADER) [
+  | inl small ↦ rw (lt-ltb len MAX_HEADER small) refl
   | inr ge ↦ absurd (no_whole more a b (sym (ap (λ o. by_header more (option_map header_of o)) (g.none refl ge)) ∙ e))
 ]
 
-header_size_within : (b : List ℕ) (lines : Lines) → header_lines (take max_header b) ≡ Some lines → (header_of lines).size ≤ length b
-header_size_within b lines e = omega (arith, header_is_part lines, part_within (take max_header b) lines e, length-take max_header b)
+header_size_within : (b : List ℕ) (lines : Lines) → header_lines (take MAX_HEADER b) ≡ Some lines → (header_of lines).size ≤ length b
+header_size_within b lines e = omega (arith, header_is_part lines, part_within (take MAX_HEADER b) lines e, length-take MAX_HEADER b)
 
-found_within : (b : List ℕ) (o : Option Lines) → header_lines (take max_header b) ≡ o → IsWithin (length b) (by_header (length b) (option_map header_of o))
+found_within : (b : List ℕ) (o : Option Lines) → header_lines (take MAX_HEADER b) ≡ o → IsWithin (length b) (by_header (length b) (option_map header_of o))
 found_within b (Some lines) e = behind_within (length b) (header_of lines).size (header_of lines).length (header_size_within b lines e) (header_is_length lines)
-found_within b None e = elim (cases_lt (length b) max_header) [
-  | inl lt ↦ rw (lt-ltb (length b) max_header lt) tt
-  | inr ge ↦ rw (le-ltb (length b) max_header ge) (omega arith)
+found_within b None e = elim (cases_lt (length b) MAX_HEADER) [
+  | inl lt ↦ rw (lt-ltb (length b) MAX_HEADER lt) tt
+  | inr ge ↦ rw (le-ltb (length b) MAX_HEADER ge) (omega arith)
 ]
 
 header_within : (b : List ℕ) → IsWithin (length b) (header_front b)
-header_within b = found_within b (header_lines (take max_header b)) refl
+header_within b = found_within b (header_lines (take MAX_HEADER b)) refl
 
 -- ---- lengths of four bytes
 
@@ -131,9 +133,9 @@ by_length len r = cond (ltb len 4) Short (behind len 4 r)
 
 length_is : (z : ℤ) → IsLength 4 (length_in z)
 length_is (pos zero) = omega arith
-length_is (pos (suc n)) = elim (cases_lt max_body (suc n)) [
-  | inl lt ↦ rw (lt-ltb max_body (suc n) lt) (omega arith)
-  | inr le ↦ rw (le-ltb max_body (suc n) le, ne_eqb (suc n) 0 (λ e. omega arith)) (omega arith, le)
+length_is (pos (suc n)) = elim (cases_lt MAX_BODY (suc n)) [
+  | inl lt ↦ rw (lt-ltb MAX_BODY (suc n) lt) (omega arith)
+  | inr le ↦ rw (le-ltb MAX_BODY (suc n) le, ne_eqb (suc n) 0 (λ e. omega arith)) (omega arith, le)
 ]
 length_is (negsuc n) = omega arith
 

@@ -3,13 +3,14 @@ use Rattle.std.proofs.Common.{◌≡◌, ℕ, ◌+◌, ◌<◌, ◌≤◌, inl, 
 use Rattle.std.proofs.lemmas.Bool.{cases_lt, lt-ltb, eqb-false, or_parts}
 use Rattle.std.specs.Prelude.{codes}
 use Rattle.wire_base.specs.declared.reason.Reason.{Reason}
+use Rattle.wire_base.specs.declared.limits.TheConstants.{MAX_BODY}
 use Rattle.message_framing.specs.Fields.{is_no_field, is_same, name_of, value_of, number_in, has_other_charset}
 use Rattle.message_framing.specs.Lines.{part}
-use Rattle.message_framing.specs.Header.{max_body, with_number, with_line, Said, told_at, say, length_at, header_from, header_of}
+use Rattle.message_framing.specs.Header.{with_number, with_line, Said, told_at, say, length_at, header_from, header_of}
 
 -- a length of a content part
 abbrev pub InRange : ℕ → Type 0
-InRange n = (0 < n) × (n ≤ max_body)
+InRange n = (0 < n) × (n ≤ MAX_BODY)
 
 abbrev pub IsFound : Option ℕ → Type 0
 IsFound (Some n) = InRange n
@@ -35,10 +36,10 @@ either P false x y p q = q refl
 
 told_number : (found number : Option ℕ) → IsTold (with_number found number)
 told_number found None = tt
-told_number found (Some n) = either IsTold (ltb max_body n) _ _ (λ _. tt) (λ small. either IsTold ((n == 0) || is_some found) _ _ (λ _. tt) (λ some.
+told_number found (Some n) = either IsTold (ltb MAX_BODY n) _ _ (λ _. tt) (λ small. either IsTold ((n == 0) || is_some found) _ _ (λ _. tt) (λ some.
     let zero = eqb-false n 0 (or_parts (n == 0) (is_some found) some).0 in
-    elim (cases_lt max_body n) [
-      | inl lt ↦ absurd (let big = lt-ltb max_body n lt in cc)
+    elim (cases_lt MAX_BODY n) [
+      | inl lt ↦ absurd (let big = lt-ltb MAX_BODY n lt in cc)
       | inr le ↦ (omega (arith, zero), le)
     ]))
 

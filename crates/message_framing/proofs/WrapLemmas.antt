@@ -9,13 +9,15 @@ use Rattle.std.proofs.lemmas.Int.{to_z_pos}
 use Rattle.std.proofs.lemmas.Nat.{from_be_bytes-to_be_bytes_4}
 use Rattle.std.proofs.lemmas.List.{drop_at, take_at, length-take}
 use Rattle.std.proofs.Math.Seq.{take-append-add, take-append_seam}
+use Rattle.wire_base.specs.declared.limits.TheConstants.{MAX_BODY}
+use Rattle.message_framing.specs.declared.reading.TheConstants.{MAX_HEADER}
 use Rattle.message_framing.specs.declared.framing.Framing.{Framing}
 use Rattle.message_framing.specs.declared.framing.Framing.TheVariants as framing
 use Rattle.message_framing.specs.declared.front.Front.TheVariants.{Whole, Short}
 use Rattle.message_framing.specs.Fields.{is_blank, is_foreign, onto_trimmed, trim_front, trim_back, digit_in, number_from, number_in, is_no_field, value_of}
 use Rattle.message_framing.specs.Lines.{line_end, is_end, header_lines, IsLine, part}
-use Rattle.message_framing.specs.Header.{max_body, with_number, with_line, told_at, length_at, header_of}
-use Rattle.message_framing.specs.Front.{max_header, behind, by_header, length_in, header_front, length_front, front, IsMessage}
+use Rattle.message_framing.specs.Header.{with_number, with_line, told_at, length_at, header_of}
+use Rattle.message_framing.specs.Front.{behind, by_header, length_in, header_front, length_front, front, IsMessage}
 use Rattle.message_framing.specs.Wrapped.{head_text, wrapped}
 use Rattle.message_framing.proofs.Parts.{has_end, is_line, part_is_header}
 use Rattle.message_framing.proofs.HeaderLemmas.{header_is_part}
@@ -97,7 +99,7 @@ no_end_in (b ∷ bytes) h = or_from (is_end (b ∷ bytes)) (has_end bytes) (not_
 abbrev line : List ℕ → List ℕ
 line digits = codes "Content-Length: " ++ digits
 
-module _ (digits : List ℕ) (n : ℕ) (says : Says n digits) (short : length digits ≤ 8) (some : 0 < n) (most : n ≤ max_body) where
+module _ (digits : List ℕ) (n : ℕ) (says : Says n digits) (short : length digits ≤ 8) (some : 0 < n) (most : n ≤ MAX_BODY) where
   line_is_line : IsLine (line digits)
   line_is_line = is_line 67 (codes "ontent-Length: " ++ digits) (or_from (is_end (32 ∷ digits)) (has_end digits) (not_end 32 digits (λ e. omega arith)) (no_end_in digits says.digits))
 
@@ -111,7 +113,7 @@ module _ (digits : List ℕ) (n : ℕ) (says : Says n digits) (short : length di
   number_is = rw (lt-ltb 0 (length digits) says.some, le-leb (length digits) 8 short) says.number
 
   with_number_is : with_number None (Some n) ≡ Ok (Some n)
-  with_number_is = rw (le-ltb max_body n most, ne_eqb n 0 (λ e. omega arith)) refl
+  with_number_is = rw (le-ltb MAX_BODY n most, ne_eqb n 0 (λ e. omega arith)) refl
 
   with_line_is : with_line None (line digits) ≡ Ok (Some n)
   with_line_is = rw is_field (ap (with_number None) (ap number_in value_is ∙ number_is) ∙ with_number_is)
@@ -119,15 +121,15 @@ module _ (digits : List ℕ) (n : ℕ) (says : Says n digits) (short : length di
   length_is : (header_of (line digits ∷ [])).length ≡ Ok n
   length_is = ap (λ told. length_at (0 + length (line digits) + 2) (told_at 0 told)) with_line_is
 
-  part_length : length (part (line digits ∷ [])) ≤ max_header
+  part_length : length (part (line digits ∷ [])) ≤ MAX_HEADER
   part_length = omega (arith, length-append (codes "Content-Length: " ++ digits) (13 ∷ 10 ∷ 13 ∷ 10 ∷ []), short)
 
-  found_header : (rest : List ℕ) → header_lines (take max_header (part (line digits ∷ []) ++ rest)) ≡ Some (line digits ∷ [])
+  found_header : (rest : List ℕ) → header_lines (take MAX_HEADER (part (line digits ∷ []) ++ rest)) ≡ Some (line digits ∷ [])
   found_header rest =
       let p = part (line digits ∷ []) in
-      let count : max_header ≡ length p + (max_header - length p) = omega (arith, part_length) in
-      ap header_lines (ap (λ k. take k (p ++ rest)) count ∙ take-append-add p rest (max_header - length p))
-      ∙ part_is_header (line digits ∷ []) (take (max_header - length p) rest) (line_is_line, tt)
+      let count : MAX_HEADER ≡ length p + (MAX_HEADER - length p) = omega (arith, part_length) in
+      ap header_lines (ap (λ k. take k (p ++ rest)) count ∙ take-append-add p rest (MAX_HEADER - length p))
+      ∙ part_is_header (line digits ∷ []) (take (MAX_HEADER - length p) rest) (line_is_line, tt)
 
   header_is_whole : (rest : List ℕ) → n ≤ length rest → header_front (part (line digits ∷ []) ++ rest) ≡ Whole (length (part (line digits ∷ []))) n
   header_is_whole rest le =
@@ -143,13 +145,13 @@ head_is_part : (n : ℕ) → head_text framing.Header n ≡ part (line (decimal 
 unfolding head_text
 head_is_part n = sym (append_assoc (codes "Content-Length: ") (decimal n) (line_end ++ line_end))
 
-header_wrapped : (n : ℕ) (rest : List ℕ) → 0 < n → n ≤ max_body → n ≤ length rest → header_front (head_text framing.Header n ++ rest) ≡ Whole (length (head_text framing.Header n)) n
+header_wrapped : (n : ℕ) (rest : List ℕ) → 0 < n → n ≤ MAX_BODY → n ≤ length rest → header_front (head_text framing.Header n ++ rest) ≡ Whole (length (head_text framing.Header n)) n
 header_wrapped n rest some most le = rw (head_is_part n) (header_is_whole (decimal n) n (decimal_says n (omega arith)) (length-decimal-le 8 n (omega arith) (omega arith) (omega arith)) some most rest le)
 
-length_in_range : (n : ℕ) → 0 < n → n ≤ max_body → length_in (pos n) ≡ Ok n
-length_in_range n some most = rw (le-ltb max_body n most, ne_eqb n 0 (λ e. omega arith)) refl
+length_in_range : (n : ℕ) → 0 < n → n ≤ MAX_BODY → length_in (pos n) ≡ Ok n
+length_in_range n some most = rw (le-ltb MAX_BODY n most, ne_eqb n 0 (λ e. omega arith)) refl
 
-length_wrapped : (n : ℕ) (rest : List ℕ) → 0 < n → n ≤ max_body → n ≤ length rest → length_front (head_text framing.Length n ++ rest) ≡ Whole (length (head_text framing.Length n)) n
+length_wrapped : (n : ℕ) (rest : List ℕ) → 0 < n → n ≤ MAX_BODY → n ≤ length rest → length_front (head_text framing.Length n ++ rest) ≡ Whole (length (head_text framing.Length n)) n
 unfolding head_text
 length_wrapped n rest some most le =
     let bytes = to_be_bytes w32 n ++ rest in
@@ -159,7 +161,7 @@ length_wrapped n rest some most le =
     ∙ ap (behind (length bytes) 4) (length_in_range n some most)
     ∙ rw (le-ltb (length bytes) (4 + n) (omega arith)) refl)
 
-head_whole : (f : Framing) (n : ℕ) (rest : List ℕ) → 0 < n → n ≤ max_body → n ≤ length rest → front f (head_text f n ++ rest) ≡ Whole (length (head_text f n)) n
+head_whole : (f : Framing) (n : ℕ) (rest : List ℕ) → 0 < n → n ≤ MAX_BODY → n ≤ length rest → front f (head_text f n ++ rest) ≡ Whole (length (head_text f n)) n
 unfolding front
 head_whole framing.Header n rest some most le = header_wrapped n rest some most le
 head_whole framing.Length n rest some most le = length_wrapped n rest some most le
@@ -169,7 +171,7 @@ head_whole framing.Length n rest some most le = length_wrapped n rest some most 
 regrouped : (f : Framing) (body more : List ℕ) → wrapped f body ++ more ≡ head_text f (length body) ++ (body ++ more)
 regrouped f body more = append_assoc (head_text f (length body)) body more
 
-pub wrapped_whole : (f : Framing) (body more : List ℕ) → 0 < length body → length body ≤ max_body → front f (wrapped f body ++ more) ≡ Whole (length (head_text f (length body))) (length body)
+pub wrapped_whole : (f : Framing) (body more : List ℕ) → 0 < length body → length body ≤ MAX_BODY → front f (wrapped f body ++ more) ≡ Whole (length (head_text f (length body))) (length body)
 wrapped_whole f body more some most =
     ap (front f) (regrouped f body more) ∙ head_whole f (length body) (body ++ more) some most (omega (arith, length-append body more))
 
@@ -180,7 +182,7 @@ wrapped_body f body more =
     ∙ ap (λ (s : List ℕ). take (length body) s) (drop_at head (body ++ more) (length head) refl)
     ∙ take_at body more (length body) refl
 
-pub wrapped_cut : (f : Framing) (body : List ℕ) (n : ℕ) → 0 < length body → length body ≤ max_body → n < length (wrapped f body) → front f (take n (wrapped f body)) ≡ Short
+pub wrapped_cut : (f : Framing) (body : List ℕ) (n : ℕ) → 0 < length body → length body ≤ MAX_BODY → n < length (wrapped f body) → front f (take n (wrapped f body)) ≡ Short
 wrapped_cut f body n some most lt =
     let w = wrapped f body in
     let head = head_text f (length body) in

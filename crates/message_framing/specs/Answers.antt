@@ -15,7 +15,7 @@ pub record RefusesAt (reader : Unread) (place : Place) (reason : Reason) : Type 
   pub place_is : place.0 ≡ reader.at + offset
 
 -- a body of so many bytes stands whole in what is unread, behind so many bytes of its head
-pub record Gives (old new : Unread) (place : Place) (body : List ℕ) : Type 0 where
+pub record GivesBody (old new : Unread) (place : Place) (body : List ℕ) : Type 0 where
   pub start : ℕ
   pub size : ℕ
   pub whole : front old.framing old.rest ≡ Whole start size
@@ -24,11 +24,11 @@ pub record Gives (old new : Unread) (place : Place) (body : List ℕ) : Type 0 w
   pub then : new ≡ without_front (start + size) old
 
 -- the answer is what stands at the front of the unread bytes. A message is taken from them, and nothing else changes them. Want of memory is free
-abbrev pub Answers : NextBody → (old new : Unread) → Type 0
-Answers (next.Body place body) old new = Gives old new place body
-Answers next.Short old new = (front old.framing old.rest ≡ Short) × (new ≡ old)
-Answers (next.Refused place reason) old new = RefusesAt old place reason × (new ≡ old)
-Answers next.OutOfMemory old new = new ≡ old
+abbrev pub AnswersBody : NextBody → (old new : Unread) → Type 0
+AnswersBody (next.Body place body) old new = GivesBody old new place body
+AnswersBody next.Short old new = (front old.framing old.rest ≡ Short) × (new ≡ old)
+AnswersBody (next.Refused place reason) old new = RefusesAt old place reason × (new ≡ old)
+AnswersBody next.OutOfMemory old new = new ≡ old
 
 -- a message stands whole at the front, its body of so many bytes behind so many of its head
 abbrev pub HasMessage : (start size : ℕ) → Unread → Type 0

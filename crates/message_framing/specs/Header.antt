@@ -1,18 +1,15 @@
 -- What a header says: the length of the content part, or the first line that breaks a rule.
 use Rattle.std.specs.Prelude.{ℕ, ◌+◌, List, [], ◌∷◌, length, codes, ◌==◌, ◌||◌, nat_lt, Option, Some, None, is_some, Result, Ok, Err, if◌then◌else◌}
+use Rattle.wire_base.specs.declared.limits.TheConstants.{MAX_BODY}
 use Rattle.wire_base.specs.declared.reason.Reason.{Reason}
 use Rattle.wire_base.specs.declared.reason.Reason.TheVariants.{BadHeader, NoLength, LengthTooBig, BadLength, BadCharset}
 use Rattle.message_framing.specs.declared.header.Header.{Header}
 use Rattle.message_framing.specs.Fields.{is_no_field, is_same, name_of, value_of, number_in, has_other_charset}
 
--- the most bytes of a content part
-abbrev pub max_body : ℕ
-max_body = 16777216
-
 -- a length is 1 to 16,777,216, and stands once
 abbrev pub with_number : Option ℕ → Option ℕ → Result (Option ℕ) Reason
 with_number found None = Err BadLength
-with_number found (Some n) = if nat_lt max_body n then Err LengthTooBig else if (n == 0) || is_some found then Err BadLength else Ok (Some n)
+with_number found (Some n) = if nat_lt MAX_BODY n then Err LengthTooBig else if (n == 0) || is_some found then Err BadLength else Ok (Some n)
 
 -- the length after one more line, or the rule that the line breaks
 abbrev pub with_line : Option ℕ → List ℕ → Result (Option ℕ) Reason

@@ -5,10 +5,7 @@ ghost use Rattle.message_framing.specs.Lines.{is_end, lines_of, header_lines};
 ghost use Rattle.message_framing.specs.Header.{with_number, with_line, say, length_at, header_of};
 
 use crate::field::{field, has_other_charset, is_same, number};
-use wire_base::Reason;
-
-/// The most bytes of a content part.
-pub const MAX_BODY: u32 = 16_777_216;
+use wire_base::{MAX_BODY, Reason};
 
 const CONTENT_LENGTH: &[u8] = b"Content-Length";
 

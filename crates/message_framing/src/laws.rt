@@ -7,13 +7,13 @@ ghost use Rattle.message_framing.specs.declared.next_body.NextBody.{NextBody};
 ghost use Rattle.message_framing.specs.declared.next_body.NextBody.TheVariants as next;
 ghost use Rattle.message_framing.specs.Framed.{BreaksARule, HasContent};
 ghost use Rattle.message_framing.specs.Front.{front, IsMessage};
-ghost use Rattle.message_framing.specs.Header.{max_body};
 ghost use Rattle.message_framing.specs.Lines.{HasPart, header_lines};
 ghost use Rattle.message_framing.specs.Reads.{Begins, Follows, HasNone, Reads};
 ghost use Rattle.message_framing.specs.Unread.{Unread};
 ghost use Rattle.message_framing.specs.Wrapped.{head_text, wrapped};
 ghost use Rattle.std.specs.List.{concat};
 ghost use Rattle.std.specs.Prelude.{◌≡◌, ◌≢◌, ◌+◌, ◌<◌, ◌≤◌, ◌++◌, ◌↔◌, ℕ, List, Some, length, take, drop};
+ghost use Rattle.wire_base.specs.declared.limits.TheConstants.{MAX_BODY};
 ghost use Rattle.wire_base.specs.declared.place.Place.{Place};
 ghost use Rattle.wire_base.specs.declared.reason.Reason.{Reason};
 
@@ -38,11 +38,11 @@ pub fn fronts_stay()
 
 /// What is wrapped is read back, whatever follows, and a front of it is too few bytes to tell.
 pub fn wrapped_is_read()
-    ensures whole { (f : Framing) (body more : List ℕ) → 0 < length body → length body ≤ max_body →
+    ensures whole { (f : Framing) (body more : List ℕ) → 0 < length body → length body ≤ MAX_BODY →
         front f (wrapped f body ++ more) ≡ Whole (length (head_text f (length body))) (length body) }
     ensures body { (f : Framing) (body more : List ℕ) →
         take (length body) (drop (length (head_text f (length body))) (wrapped f body ++ more)) ≡ body }
-    ensures cut { (f : Framing) (body : List ℕ) (n : ℕ) → 0 < length body → length body ≤ max_body → n < length (wrapped f body) →
+    ensures cut { (f : Framing) (body : List ℕ) (n : ℕ) → 0 < length body → length body ≤ MAX_BODY → n < length (wrapped f body) →
         front f (take n (wrapped f body)) ≡ Short }
 {}
 

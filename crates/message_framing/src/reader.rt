@@ -1,10 +1,11 @@
 //! A reader of bodies from a stream that comes in pieces.
 
-ghost use Rattle.message_framing.specs.Answers.{Answers, HasMessage, RefusesAt, front_body};
+ghost use Rattle.message_framing.specs.Answers.{AnswersBody, HasMessage, RefusesAt, front_body};
 ghost use Rattle.message_framing.specs.Reads.{Follows, Reads, given_with};
 ghost use Rattle.message_framing.specs.Unread.{with_piece, without_front};
 ghost use Rattle.message_framing.specs.Front.{IsWithin, front};
-ghost use Rattle.std.specs.Prelude.{◌≡◌, ◌+◌, ◌<◌, ◌≤◌, ◌^◌, ◌++◌, ◌⊎◌, ℕ, List, [], ◌∷◌, length, take, drop, IfOk, OnErr, OnOk};
+ghost use Rattle.std.specs.Prelude.{◌≡◌, ◌+◌, ◌<◌, ◌≤◌, ◌++◌, ◌⊎◌, ℕ, List, [], ◌∷◌, length, take, drop, IfOk, OnErr, OnOk};
+ghost use Rattle.wire_base.specs.declared.limits.TheConstants.{MAX_FED};
 ghost use Rattle.wire_base.specs.declared.place.Place.{Place};
 ghost use Rattle.wire_base.specs.declared.reason.Reason.{Reason};
 
@@ -59,7 +60,7 @@ impl MessageReader {
 
     /// Takes the next piece of the stream.
     pub fn feed(&mut self, piece: &[u8]) -> Result<(), OutOfMemory>
-        requires { self.old.fed + length piece.now ≤ 2 ^ 62 }
+        requires { self.old.fed + length piece.now ≤ MAX_FED }
         ensures ok { OnOk result (self.new ≡ with_piece piece.now self.old) }
         ensures err { OnErr result (self.new ≡ self.old) }
         ensures reads { (stream : List ℕ) (given : List (ℕ × List ℕ)) → Reads self.old stream given →
@@ -75,7 +76,7 @@ impl MessageReader {
     /// The next body of all bytes fed.
     #[tactic(auto, using(crate::proofs::Streams::answers))]
     pub fn next(&mut self) -> NextBody
-        ensures answer { Answers result self.old self.new }
+        ensures answer { AnswersBody result self.old self.new }
         ensures refuses { (place : Place) (reason : Reason) → RefusesAt self.old place reason →
             (result ≡ NextBody.Refused place reason) ⊎ (result ≡ NextBody.OutOfMemory) }
         ensures shorter { (place : Place) (body : List ℕ) → result ≡ NextBody.Body place body →
@@ -141,7 +142,7 @@ impl MessageReader {
     /// The place of the first byte that wasn't given.
     pub fn place(&self) -> Place
         ensures value { result.0 ≡ self.now.at }
-        ensures within { result.0 + length self.now.rest ≤ 2 ^ 62 }
+        ensures within { result.0 + length self.now.rest ≤ MAX_FED }
     {
         Place(self.at)
     }

@@ -1,12 +1,12 @@
 //! What stands at the front of bytes.
 
 ghost use Rattle.std.specs.Prelude.{◌≡◌, ◌≤◌, length, take, IfSome};
-ghost use Rattle.message_framing.specs.Front.{max_header, behind, by_header, length_in, header_front, length_front, IsWithin, front};
+ghost use Rattle.message_framing.specs.Front.{behind, by_header, length_in, header_front, length_front, IsWithin, front};
 
 use crate::framing::Framing;
 use crate::front::Front;
-use crate::header::{Broken, Header, MAX_BODY, header_part};
-use wire_base::Reason;
+use crate::header::{Broken, Header, header_part};
+use wire_base::{MAX_BODY, Reason};
 
 /// The most bytes of a header part.
 const MAX_HEADER: usize = 4_096;
@@ -48,7 +48,7 @@ fn length_in(number: i32) -> Result<u32, Broken>
 
 /// As many of the bytes as a header part may have.
 fn first_bytes(bytes: &[u8]) -> &[u8]
-    ensures value { result.now ≡ take max_header bytes.now }
+    ensures value { result.now ≡ take MAX_HEADER bytes.now }
     ensures within { length result.now ≤ length bytes.now }
 {
     if bytes.len() < MAX_HEADER {

@@ -2,8 +2,8 @@
 
 ghost use Rattle.std.specs.Prelude.{◌≡◌, ◌+◌, ◌<◌, ◌≤◌, ◌^◌, ◌++◌, codes, length, OnOk, OnErr};
 ghost use Rattle.message_framing.specs.Lines.{line_end};
-ghost use Rattle.message_framing.specs.Header.{max_body};
 ghost use Rattle.message_framing.specs.Wrapped.{wrapped};
+ghost use Rattle.wire_base.specs.declared.limits.TheConstants.{MAX_BODY};
 
 use crate::framing::Framing;
 use wire_base::OutOfMemory;
@@ -37,7 +37,7 @@ fn push_both(front: &[u8; 4], body: &[u8], out: &mut Vec<u8>) -> Result<(), OutO
 #[tactic(auto, unfolding(crate::specs::Wrapped::head_text))]
 pub fn wrap(framing: Framing, body: &[u8], out: &mut Vec<u8>) -> Result<(), OutOfMemory>
     requires some { 0 < length body.now }
-    requires most { length body.now ≤ max_body }
+    requires most { length body.now ≤ MAX_BODY }
     ensures ok { OnOk result (out.new.items ≡ out.old.items ++ wrapped framing body.now) }
     ensures err { OnErr result (out.new.items ≡ out.old.items) }
 {

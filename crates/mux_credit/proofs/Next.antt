@@ -1,7 +1,7 @@
 -- No end refuses the next frame of the other.
 use Rattle.std.specs.Prelude.{ℕ, ◌+◌, ◌≤◌, List, [], ◌∷◌, ◌++◌, length, map, Bool, true, false, not, ◌&&◌, ◌||◌, nat_lt, if◌then◌else◌, Option, Some, None}
 use Rattle.std.proofs.Common.{◌≡◌, inl, inr, refl, sym, ◌∙◌, ap, arith, length-append}
-use Rattle.std.proofs.lemmas.Bool.{cases_Bool, true≢false, false≢true, and_right, le-ltb, not-true}
+use Rattle.std.proofs.lemmas.Bool.{cases_Bool, cond-false, true≢false, false≢true, and_right, le-ltb, not-false, not-true}
 use Rattle.wire_base.specs.declared.frame.Version.{Version}
 use Rattle.wire_base.specs.declared.reason.Reason.{Reason}
 use Rattle.wire_base.specs.declared.reason.Reason.TheVariants as reason
@@ -155,16 +155,6 @@ none_of_three first second third x y z e f g = rw (e, f, g) refl
 none_of_two : {A : Type 0} (first second : Bool) (x y : A) → first ≡ false → second ≡ false → (if first then Some x else if second then Some y else None) ≡ None
 none_of_two first second x y e f = rw (e, f) refl
 
-none_of_one : {A : Type 0} (first : Bool) (x : A) → first ≡ false → (if first then Some x else None) ≡ None
-none_of_one first x e = rw e refl
-
-not_again : (b : Bool) → not b ≡ true → b ≡ false
-not_again b e = not-true b e
-
-own_from : (b : Bool) → not b ≡ false → b ≡ true
-own_from true e = refl
-own_from false e = absurd (true≢false e)
-
 unfresh_clash : (s : Stage) (b : Bool) → is_fresh s ≡ true → (b ≡ true → is_fresh s ≡ false) → b ≡ false
 unfresh_clash s true e h = absurd (true≢false (sym e ∙ h refl))
 unfresh_clash s false e h = refl
@@ -172,11 +162,11 @@ unfresh_clash s false e h = refl
 pub next_allowed : (v : Version) (c : ChannelKey) (body : FrameBody) (rest : List ChannelFrame) (x y : List Item) → Between v x y → IsNext v c body rest x y → frame_refusal v c body x ≡ None
 next_allowed v c (Offer name size) rest x y b is =
     let on = opening (not c.own) (heard_at c x) name size (in_order v c (Offer name size) rest x y b is) in
-    let peer = not_again c.own on.0 in
+    let peer = not-true c.own on.0 in
     none_of_two c.own (is_offered c x) reason.WrongSide reason.IdInUse peer (unfresh_clash (heard_at c x) (is_offered c x) on.1 (λ o. offered_came v c x b.allowed peer o))
 next_allowed v c (OfferAccepted size) rest x y b is =
     let on = accepting (not c.own) (heard_at c x) size (in_order v c (OfferAccepted size) rest x y b is) in
-    let own = own_from c.own on.0 in
+    let own = not-false c.own on.0 in
     later_none (is_offered c x) (termination_emitted v c x) (heeded_refusal v c (OfferAccepted size) x) (next_offered v c (OfferAccepted size) rest x y b is refl)
     (λ heard. none_of_two (not c.own) (is_accepted v c x) reason.WrongSide reason.AlreadyAccepted on.0 (unfresh_clash (heard_at c x) (is_accepted v c x) on.1 (λ a. accepted_came v c x b.allowed own a)))
 next_allowed v c (Content bytes) rest x y b is =
@@ -192,7 +182,7 @@ next_allowed v c ChannelTerminated rest x y b is =
     later_none (is_offered c x) (termination_emitted v c x) None (next_offered v c ChannelTerminated rest x y b is refl) (λ heard. refl)
 next_allowed v c (ContentProcessed count) rest x y b is =
     later_none (is_offered c x) (termination_emitted v c x) (heeded_refusal v c (ContentProcessed count) x) (next_offered v c (ContentProcessed count) rest x y b is refl)
-    (λ heard. none_of_one (nat_lt (emitted v c x) (acknowledged v c x + count)) reason.OverAcknowledged (le-ltb (emitted v c x) (acknowledged v c x + count) (paid heard)))
+    (λ heard. cond-false (nat_lt (emitted v c x) (acknowledged v c x + count)) (Some reason.OverAcknowledged) None (le-ltb (emitted v c x) (acknowledged v c x + count) (paid heard)))
   where
     paid : termination_emitted v c x ≡ false → acknowledged v c x + count ≤ emitted v c x
     paid heard =

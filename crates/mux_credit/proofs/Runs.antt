@@ -27,7 +27,6 @@ use Rattle.mux_run.specs.Between.{ahead, Between}
 use Rattle.mux_run.specs.Moments.{IsMoment}
 use Rattle.mux_run.specs.Spending.{RunStep, Makes, Spends, comes, come_from, run_through, IsMomentThrough}
 use Rattle.mux_run.specs.Linked.{Joined}
-use Rattle.mux_run.specs.Fed.{IsFed, AreFed}
 use Rattle.mux_run.specs.declared.steps.Side.{Side}
 use Rattle.mux_run.specs.declared.steps.Side.TheVariants.{A, B}
 use Rattle.mux_run.specs.declared.steps.Step.{Step}
@@ -37,7 +36,7 @@ use Rattle.mux_run.proofs.Growing.{greeted_grown, next_front, apply_frames_more,
 use Rattle.mux_run.proofs.Between.{turned_between, between_grown, between_called, applied_is, between_next}
 use Rattle.mux_run.proofs.Links.{joined_between, comes_joined, turned_joined, fresh_joined, through_joined}
 use Rattle.mux_run.proofs.Moments.{through_between, made_through, moment_through}
-use Rattle.mux_run.proofs.Fed.{turned_fed, through_fed}
+use Rattle.mux_run.proofs.Fed.{IsFed, AreFed, turned_fed, through_fed}
 use Rattle.mux_credit.specs.Credit.{IsDelivered}
 use Rattle.mux_credit.specs.Runs.{IsEndedWell, KeepsCreditWay, KeepsCredit, IsQuietSide, IsQuiet, IsAllDelivered, KeepsCreditRun, KeepsCreditThrough}
 use Rattle.mux_credit.proofs.Next.{takes_next}

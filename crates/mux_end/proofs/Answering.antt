@@ -9,6 +9,7 @@ use Rattle.wire_base.specs.declared.refusal.Refusal.{Refusal}
 use Rattle.wire_base.specs.declared.state.Cause.{Cause}
 use Rattle.wire_base.specs.declared.state.Cause.TheVariants as causes
 use Rattle.wire_base.specs.declared.state.EndState.TheVariants as state
+use Rattle.wire_base.specs.States.{state_by}
 use Rattle.frame_reader.specs.Unread.{Unread}
 use Rattle.mux_items.specs.declared.channel.ChannelKey.{ChannelKey}
 use Rattle.mux_items.specs.Bodies.{frame_texts}
@@ -24,7 +25,7 @@ use Rattle.mux_state.proofs.Dues.{due_by_book}
 use Rattle.mux_end.specs.Ends.{finished, value_in, with_end}
 use Rattle.mux_end.specs.Known.{Leaves, count_found, unread_found}
 use Rattle.mux_end.specs.Replies.{Adds, CallAnswers, EndsBy, FeedAnswers, is_spent}
-use Rattle.mux_end.specs.Stands.{EndValue, MuxStands, state_by}
+use Rattle.mux_end.specs.Stands.{EndValue, MuxStands}
 
 -- an end that stands for items isn't stopped
 runs_or_ended : (cause : Option Cause) → state_by cause ≡ state.Stopped → ⊥

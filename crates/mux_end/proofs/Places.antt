@@ -1,7 +1,7 @@
 -- Where a channel stands in the list of an end.
-use Rattle.std.specs.Prelude.{ℕ, ◌+◌, ◌<◌, ◌≤◌, ◌++◌, zero, suc, take, drop, map, List, [], ◌∷◌, length, min, All, true, false, nat_lt, if◌then◌else◌, Option, Some, None, Result, Ok, Err, OnOk}
+use Rattle.std.specs.Prelude.{ℕ, ◌+◌, ◌<◌, ◌≤◌, ◌++◌, zero, suc, map, List, [], ◌∷◌, length, min, All, true, false, nat_lt, if◌then◌else◌, Option, Some, None, Result, Ok, Err, OnOk}
 use Rattle.std.specs.List.{position, position_or_len}
-use Rattle.std.proofs.Common.{◌≡◌, add-one, inl, inr, refl, sym, ◌∙◌, ap, subst, arith, get_or, set}
+use Rattle.std.proofs.Common.{◌≡◌, inl, inr, refl, sym, ◌∙◌, ap, subst, arith, get_or, set}
 use Rattle.std.proofs.lemmas.Bool.{cases_Bool, cond_both, ltb-false}
 use Rattle.std.proofs.lemmas.Bool.Decides.{nat_tests}
 use Rattle.std.proofs.lemmas.List.{set-get_or}
@@ -13,12 +13,13 @@ use Rattle.wire_base.specs.declared.frame.Version.{Version}
 use Rattle.wire_base.specs.declared.reason.Reason.{Reason}
 use Rattle.wire_base.specs.declared.refusal.Refusal.{Refusal}
 use Rattle.wire_base.specs.declared.refusal.Refusal.TheVariants as refusal
+use Rattle.wire_base.specs.Options.{or_else}
 use Rattle.channel_credit.specs.declared.take_fault.TakeFault.{TakeFault}
 use Rattle.channel_credit.specs.declared.take_fault.TakeFault.TheVariants as take_fault
 use Rattle.mux_items.specs.declared.channel.ChannelKey.{ChannelKey}
 use Rattle.mux_items.specs.Bodies.{FrameBody, ChannelFrame, frame_texts, same_key}
 use Rattle.mux_items.specs.Limits.{most_windows}
-use Rattle.mux_items.specs.Refusals.{is_bad_window, or_else}
+use Rattle.mux_items.specs.Refusals.{is_bad_window}
 use Rattle.mux_items.proofs.Keys.{same_key_true}
 use Rattle.mux_state.specs.State.{ChannelState}
 use Rattle.mux_state.specs.Next.{ended_state}
@@ -156,15 +157,6 @@ spent_same w size = grind (arith, nat_tests)
 
 pub accept_within : (w w' size : ℕ) → w ≡ min (most_windows + 1) w' → accept_test w size ≡ accept_test w' size
 accept_within w w' size e = ap (λ n. accept_test n size) e ∙ accept_same (min (most_windows + 1) w') w' size (spent_same w' size)
-
--- one more element is changed
-pub changes_next : {A : Type 0} (f : A → A) (xs : List A) (i : ℕ) (x y : A) → i < length xs → x ≡ get_or xs i x → y ≡ f x → take (suc i) (set xs i y) ++ map f (drop (suc i) (set xs i y)) ≡ take i xs ++ map f (drop i xs)
-changes_next f [] i x y within is e = absurd (omega arith)
-changes_next f (z ∷ zs) zero x y within is e = ap (λ w. w ∷ map f zs) (e ∙ ap f is)
-changes_next f (z ∷ zs) (suc i) x y within is e = ap (λ ws. z ∷ ws) (changes_next f zs i x y (omega arith) is e)
-
-pub changes_more : {A : Type 0} (f : A → A) (xs : List A) (i : ℕ) (x y : A) → i < length xs → x ≡ get_or xs i x → y ≡ f x → take (i + 1) (set xs i y) ++ map f (drop (i + 1) (set xs i y)) ≡ take i xs ++ map f (drop i xs)
-changes_more f xs i x y within is e = rw add-one (changes_next f xs i x y within is e)
 
 -- the end of an end keeps its channels of one version
 moved_version : (v : Version) (s : ChannelState) → s.version ≡ v → HasVersion v (moved s)

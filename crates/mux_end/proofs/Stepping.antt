@@ -10,6 +10,7 @@ use Rattle.wire_base.specs.declared.reason.Reason.{Reason}
 use Rattle.wire_base.specs.declared.state.Cause.{Cause}
 use Rattle.wire_base.specs.declared.state.EndState.TheVariants as state
 use Rattle.wire_base.specs.Front.{Whole, Short, Broken}
+use Rattle.wire_base.specs.States.{state_by}
 use Rattle.frame_text.specs.Front.{Front}
 use Rattle.frame_text.specs.Reading.{front}
 use Rattle.frame_text.proofs.Within.{front_within}
@@ -33,7 +34,7 @@ use Rattle.mux_end.specs.Arrivals.{Arrival, arrival, arrival_of_frame, arrival_o
 use Rattle.mux_end.specs.Ends.{Steps, front_arrives, with_applied, with_greeting, with_item}
 use Rattle.mux_end.specs.Keeps.{event_by, item_in}
 use Rattle.mux_end.specs.Replies.{Adds, StepAnswers}
-use Rattle.mux_end.specs.Stands.{EndValue, MuxStands, state_by}
+use Rattle.mux_end.specs.Stands.{EndValue, MuxStands}
 use Rattle.mux_end.proofs.Answering.{adds_item, ends, still_running}
 use Rattle.mux_handshake.proofs.Parity.{handshake_parity}
 

@@ -5,6 +5,7 @@ use Rattle.wire_base.specs.declared.fault.CallFault.TheVariants as fault
 use Rattle.wire_base.specs.declared.state.Cause.{Cause}
 use Rattle.wire_base.specs.declared.state.EndState.{EndState}
 use Rattle.wire_base.specs.declared.state.EndState.TheVariants as state
+use Rattle.wire_base.specs.States.{state_by}
 use Rattle.frame_reader.specs.Unread.{Unread}
 use Rattle.frame_text.specs.Front.{Front, Whole, Short, Broken}
 use Rattle.frame_text.specs.Reading.{front}
@@ -18,7 +19,7 @@ use Rattle.mux_end.specs.declared.step.MuxStep.{MuxStep}
 use Rattle.mux_end.specs.declared.step.MuxStep.TheVariants as step
 use Rattle.mux_end.specs.Arrivals.{Arrival, Greets, Applies, Waits, Refuses, arrival_of_handshake, frame_arrival, refused_at}
 use Rattle.mux_end.specs.Keeps.{event_by, item_in}
-use Rattle.mux_end.specs.Stands.{EndValue, state_by}
+use Rattle.mux_end.specs.Stands.{EndValue}
 
 abbrev pub state_in : (stopped : Bool) → Option Cause → EndState
 state_in true cause = state.Stopped

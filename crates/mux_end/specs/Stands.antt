@@ -1,7 +1,7 @@
 -- When an end stands for a list of items.
-use Rattle.std.specs.Prelude.{◌≡◌, ℕ, List, Option, Some, None}
+use Rattle.std.specs.Prelude.{◌≡◌, ℕ, List}
+use Rattle.wire_base.specs.States.{state_by}
 use Rattle.wire_base.specs.declared.frame.Version.{Version}
-use Rattle.wire_base.specs.declared.state.Cause.{Cause}
 use Rattle.wire_base.specs.declared.state.EndState.{EndState}
 use Rattle.wire_base.specs.declared.state.EndState.TheVariants as state
 use Rattle.mux_items.specs.Items.{Item, ended}
@@ -18,10 +18,6 @@ pub record EndValue : Type 0 where
   pub at : ℕ
   pub rest : List ℕ
   pub state : EndState
-
-abbrev pub state_by : Option Cause → EndState
-state_by None = state.Running
-state_by (Some cause) = state.Ended cause
 
 abbrev pub state_of : List Item → EndState
 state_of items = state_by (ended items)

@@ -1,6 +1,5 @@
 //! What arrives at an end.
 
-ghost use Rattle.frame_reader.specs.Answers.{HasFrame};
 ghost use Rattle.frame_text.specs.Frames.{fits};
 ghost use Rattle.frame_text.specs.Front.{Whole};
 ghost use Rattle.frame_text.specs.Reading.{front};
@@ -13,7 +12,7 @@ ghost use Rattle.mux_items.specs.Bodies.{taken_frame};
 ghost use Rattle.mux_items.specs.Items.{Item, ended, party_or_neither};
 ghost use Rattle.mux_items.specs.Limits.{most_bytes};
 ghost use Rattle.mux_state.specs.Book.{is_ready_book};
-ghost use Rattle.std.specs.Prelude.{◌≡◌, ◌≤◌, ◌<◌, ◌+◌, ◌++◌, List, OnErr, OnOk, false, length, nat_lt, true, ℕ};
+ghost use Rattle.std.specs.Prelude.{◌≡◌, ◌≤◌, ◌<◌, ◌+◌, ◌++◌, List, OnOk, false, length, nat_lt, true, ℕ};
 
 use crate::end::MuxEnd;
 use crate::party::key_of;

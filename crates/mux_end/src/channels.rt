@@ -10,7 +10,7 @@ ghost use Rattle.mux_state.specs.Book.{change_at, changed_entry, due_found, even
 ghost use Rattle.mux_state.specs.Next.{ended_state, next_state};
 ghost use Rattle.mux_state.specs.Tests.{accept_test, on_kept, read_test, view_on};
 ghost use Rattle.std.specs.List.{position};
-ghost use Rattle.std.specs.Prelude.{◌≡◌, ◌≤◌, ◌+◌, ◌++◌, [], All, Bool, Some, None, Err, MatchOption, OnOk, OnErr, IfOk, filter, length, map, min, slice_get, sum_by, take, true};
+ghost use Rattle.std.specs.Prelude.{◌≡◌, ◌+◌, ◌++◌, [], All, Bool, Some, None, Err, MatchOption, OnOk, OnErr, IfOk, filter, length, map, min, slice_get, sum_by, take};
 ghost use Rattle.wire_base.specs.declared.frame.Version.{Version};
 ghost use Rattle.wire_base.specs.declared.reason.Reason.{Reason};
 ghost use Rattle.wire_base.specs.declared.refusal.Refusal.{Refusal};

@@ -2,8 +2,10 @@
 
 ghost use Rattle.mux_items.specs.Bodies.{has_parity, is_own, key_of, same_key};
 ghost use Rattle.mux_items.specs.Kept.{own_id};
+ghost use Rattle.mux_items.specs.Limits.{most_offers};
 ghost use Rattle.mux_items.specs.Views.{precedes};
 ghost use Rattle.std.specs.Prelude.{◌≡◌, ◌≤◌, ◌<◌};
+ghost use Rattle.wire_base.specs.declared.limits.TheConstants.{PLAIN_ID_LIMIT};
 
 use mux_items::{ChannelKey, Party};
 use wire_base::{Frame, Origin};
@@ -43,10 +45,10 @@ pub fn key_of(party: Party, frame: &Frame) -> ChannelKey
 /// The id of the k-th offer of an end of this party.
 pub fn own_id(party: Party, k: u64) -> u64
     requires first { 1 ≤ k }
-    requires last { k ≤ 2147483647 }
+    requires last { k ≤ most_offers }
     ensures id { result ≡ own_id party k }
     ensures least { 0 < result }
-    ensures most { result < 0x100000000 }
+    ensures most { result < PLAIN_ID_LIMIT }
 {
     match party {
         Party::Odd => 2 * k - 1,

@@ -1,10 +1,9 @@
 -- A handshake is refused at its first token that breaks a rule.
-use Rattle.std.proofs.Common.{◌≡◌, ℕ, ◌-◌, Bool, true, false, cond, ltb, List, length, take, drop, Option, Some, None, refl, arith, inl, inr}
-use Rattle.std.specs.Prelude.{ℤ, pos, negsuc, is_some, ◌==◌, nat_lt}
+use Rattle.std.proofs.Common.{◌≡◌, ℕ, ◌-◌, ltb, List, length, take, Some, refl, arith, inl, inr}
+use Rattle.std.specs.Prelude.{is_some, ◌==◌, nat_lt}
 use Rattle.std.specs.Int.{w8}
 use Rattle.std.specs.Str.{bytes_eq}
 use Rattle.wire_base.specs.declared.limits.TheConstants.{COUNT_LIMIT}
-use Rattle.wire_base.specs.Head.{Kind, read_kind}
 use Rattle.wire_base.specs.declared.token.TokenHead.{TokenHead}
 use Rattle.wire_base.specs.declared.token.TokenHead.TheVariants as token
 use Rattle.wire_base.specs.declared.reason.Reason.{Reason}
@@ -12,8 +11,8 @@ use Rattle.wire_base.specs.declared.reason.Reason.TheVariants.{BadMagic, BadVers
 use Rattle.wire_base.specs.declared.frame.Version.{Version}
 use Rattle.wire_base.specs.declared.frame.Version.TheVariants as version
 use Rattle.wire_base.specs.Front.{Broken}
-use Rattle.wire_base.specs.Tokens.{Reading, Reader, follow, Sort, a_number, a_bin, an_array, allowed, head_at, token_at, field_at, bytes_at, count_in, only}
-use Rattle.wire_base.specs.Rules.{Due, Refusal, judged, natural, has_count, has_length, field_judged}
+use Rattle.wire_base.specs.Tokens.{Reading, follow, a_number, a_bin, an_array, allowed, head_at, token_at, field_at, bytes_at, count_in, only}
+use Rattle.wire_base.specs.Rules.{Refusal, judged, has_count, has_length, field_judged}
 use Rattle.wire_base.proofs.TokenSorts.{is_sort-number, is_sort-bin, is_sort-array, number-own}
 use Rattle.wire_base.proofs.TokenWithin.{tested}
 use Rattle.wire_base.proofs.Refusals.{IsRefused, at_offset, step-then, meant, IsDue, some_if, number_says, head-step, token-step, field-step, front_of-refused, refused-front_of}

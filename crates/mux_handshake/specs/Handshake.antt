@@ -4,9 +4,8 @@ use Rattle.std.specs.Int.{w8}
 use Rattle.std.specs.Str.{bytes_eq}
 use Rattle.wire_base.specs.declared.frame.Version.{Version}
 use Rattle.wire_base.specs.declared.frame.Version.TheVariants as version
-use Rattle.wire_base.specs.declared.reason.Reason.{Reason}
 use Rattle.wire_base.specs.declared.reason.Reason.TheVariants.{BadMagic, BadVersion, SameNonce, BadShape2}
-use Rattle.wire_base.specs.declared.reading.Fault.TheVariants.{Ends, Breaks}
+use Rattle.wire_base.specs.declared.reading.Fault.TheVariants.{Breaks}
 use Rattle.wire_base.specs.Tokens.{Reader, Reading, ◌>>=◌, done, follow, allowed, only, a_number, a_bin, an_array, count_in, head_at, token_at, field_at, bytes_at}
 use Rattle.wire_base.specs.Front.{Front, front_of}
 pub use Rattle.wire_base.specs.Front.{Whole, Short, Broken}

@@ -1,5 +1,5 @@
 -- The rules that a handshake's tokens keep, and the first token that breaks one. From the multiplexing stream's protocol.
-use Rattle.std.specs.Prelude.{ℕ, List, length, take, true, Option, Some, None, ◌==◌, nat_lt, if◌then◌else◌}
+use Rattle.std.specs.Prelude.{ℕ, List, length, take, Some, None, ◌==◌, nat_lt, if◌then◌else◌}
 use Rattle.std.specs.Int.{w8}
 use Rattle.std.specs.Str.{bytes_eq}
 use Rattle.wire_base.specs.declared.limits.TheConstants.{COUNT_LIMIT}

@@ -7,7 +7,7 @@ use Rattle.mux_items.specs.declared.channel.ChannelKey.{ChannelKey}
 use Rattle.mux_items.specs.Bodies.{Offer, OfferAccepted, Content, ContentWritingCompleted, ChannelTerminated, ContentProcessed, same_key, window_of}
 use Rattle.mux_items.specs.Items.{Item, DidOffer, DidAccept, DidWrite, DidRead, DidComplete, DidTerminate, Got, Rejected, End, names, restricted}
 use Rattle.mux_items.specs.Lists.{written, window, has_completed, has_terminated, is_terminated_by_peer, is_rejected, is_cut, before_cut, is_accepted_in, granted_in, is_completed_in, within_grant, emitted_in, emitted, completion_in, completion_emitted, is_finished, termination_emitted, taken, is_accepted, handed, is_dropped, unread_count, unread}
-use Rattle.mux_items.proofs.Emission.{written_unnamed, accepted_in_unnamed, granted_in_unnamed, cut_unnamed, no_cut}
+use Rattle.mux_items.proofs.Emission.{written_unnamed, accepted_in_unnamed, granted_in_unnamed, cut_unnamed, no_cut, cut_there}
 use Rattle.mux_items.proofs.Taking.{finished_in}
 
 -- what other items leave unchanged, and what follows the older items, is the same on the items that name the channel
@@ -144,9 +144,6 @@ completion_in-restricted v c items = completion_from (is_accepted_in c (restrict
 
 finished_in-restricted : (v : Version) (c : ChannelKey) (items : List Item) → finished_in v c (restricted c items) ≡ finished_in v c items
 finished_in-restricted v c items = ap (λ b. b && is_completed_in c (restricted c items)) (completion_in-restricted v c items) ∙ ap (λ b. completion_in v c items && b) (is_completed_in-restricted c items)
-
-cut_there : (c : ChannelKey) (item : Item) (items : List Item) → is_cut c (item ∷ items) ≡ true → before_cut c (item ∷ items) ≡ before_cut c items
-cut_there c item items e = rw e refl
 
 cut_nowhere : (c : ChannelKey) (item : Item) (items : List Item) → is_cut c (item ∷ items) ≡ false → before_cut c (item ∷ items) ≡ item ∷ items
 cut_nowhere c item items e = rw e refl

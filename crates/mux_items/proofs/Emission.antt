@@ -33,6 +33,10 @@ pub if_or : (b x : Bool) → x ≡ true → (if b then true else x) ≡ true
 if_or true x e = refl
 if_or false x e = e
 
+pub if_false : (b x : Bool) → (if b then true else x) ≡ false → (b ≡ false) × (x ≡ false)
+if_false true x e = absurd (true≢false e)
+if_false false x e = (refl, e)
+
 pub if_plus : (b : Bool) (m n : ℕ) → n ≤ (if b then n + m else n)
 if_plus true m n = omega arith
 if_plus false m n = omega arith
@@ -65,13 +69,12 @@ pub no_cut : (c : ChannelKey) (items : List Item) → is_cut c items ≡ false �
 no_cut c [] e = refl
 no_cut c (item ∷ items) e = rw e refl
 
-cut_if : (b x : Bool) → (if b then true else x) ≡ false → x ≡ false
-cut_if true x e = absurd (true≢false e)
-cut_if false x e = e
+pub cut_there : (c : ChannelKey) (item : Item) (items : List Item) → is_cut c (item ∷ items) ≡ true → before_cut c (item ∷ items) ≡ before_cut c items
+cut_there c item items e = rw e refl
 
 pub no_cut_before : (c : ChannelKey) (item : Item) (items : List Item) → is_cut c (item ∷ items) ≡ false → is_cut c items ≡ false
-no_cut_before c (DidTerminate key) items e = cut_if (same_key key c) (is_cut c items) e
-no_cut_before c (Got place key ChannelTerminated) items e = cut_if (same_key key c) (is_cut c items) e
+no_cut_before c (DidTerminate key) items e = (if_false (same_key key c) (is_cut c items) e).1
+no_cut_before c (Got place key ChannelTerminated) items e = (if_false (same_key key c) (is_cut c items) e).1
 no_cut_before c (End cause) items e = absurd (true≢false e)
 no_cut_before c item items e = e
 

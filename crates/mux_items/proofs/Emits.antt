@@ -10,7 +10,7 @@ use Rattle.mux_items.specs.Lists.{written, is_offered, has_completed, has_termin
 use Rattle.mux_items.specs.Due.{newly_emitted}
 use Rattle.mux_items.specs.Applying.{Allowed}
 use Rattle.mux_items.proofs.Keys.{key_cases}
-use Rattle.mux_items.proofs.Emission.{emitted_in_more, emitted_in_bound, no_cut, no_cut_before, before_cut_cases, span_none}
+use Rattle.mux_items.proofs.Emission.{emitted_in_more, emitted_in_bound, no_cut, cut_there, no_cut_before, before_cut_cases, span_none}
 use Rattle.mux_items.proofs.Permits.{write_permits, complete_permits}
 use Rattle.mux_items.proofs.Applied.{allowed_tail}
 use Rattle.mux_items.proofs.Taking.{completion_in_more, rejected_more, written_once_completed}
@@ -91,9 +91,6 @@ pub record IsStill (v : Version) (c : ChannelKey) (item : Item) (items : List It
 
 still_by : (v : Version) (c : ChannelKey) (item : Item) (items : List Item) → before_cut c (item ∷ items) ≡ before_cut c items → IsStill v c item items
 still_by v c item items e = record { emitted = ap (emitted_in v c) e; completion = λ done. sym (ap (completion_in v c) e) ∙ done }
-
-pub cut_there : (c : ChannelKey) (item : Item) (items : List Item) → is_cut c (item ∷ items) ≡ true → before_cut c (item ∷ items) ≡ before_cut c items
-cut_there c item items e = rw e refl
 
 none_written : (v : Version) (c : ChannelKey) (items : List Item) → written c items ≡ [] → emitted_in v c items ≡ 0
 none_written v c items e = omega (arith, emitted_in_bound v c items, ap length e)

@@ -2,7 +2,7 @@
 use Rattle.std.specs.Prelude.{ℕ, ◌+◌, ◌≤◌, List, [], ◌∷◌, Bool, true, false, not, ◌||◌, if◌then◌else◌, Option, Some, None}
 use Rattle.std.specs.List.{list_any}
 use Rattle.std.proofs.Common.{◌≡◌, inl, inr, refl, sym, ◌∙◌, ap, subst, arith}
-use Rattle.std.proofs.lemmas.Bool.{cases_Bool, true≢false, false≢true, and_parts, or_cases, false_from_ne_true, true_from_ne_false}
+use Rattle.std.proofs.lemmas.Bool.{true≢false, false≢true, and_parts, or_cases, false_from_ne_true, true_from_ne_false}
 use Rattle.wire_base.specs.declared.frame.Version.{Version}
 use Rattle.wire_base.specs.declared.reason.Reason.TheVariants as reason
 use Rattle.wire_base.specs.declared.state.Cause.{Cause}
@@ -16,22 +16,19 @@ use Rattle.mux_items.specs.Kept.{keys, is_known, has_bytes, is_kept, own_offers,
 use Rattle.mux_items.specs.Refusals.{frame_refusal}
 use Rattle.mux_items.specs.Applying.{Allowed, lacks_room}
 use Rattle.mux_items.proofs.Keys.{same_key_refl, same_key_true, key_cases}
-use Rattle.mux_items.proofs.Emission.{if_or, before_same}
+use Rattle.mux_items.proofs.Emission.{if_or, if_false, before_same}
 use Rattle.mux_items.proofs.Permits.{if_none, accept_permits, write_permits, read_permits, complete_permits, terminate_permits, later_permits}
 use Rattle.mux_items.proofs.Applied.{allowed_tail}
 use Rattle.mux_items.proofs.Taking.{finished_in}
 use Rattle.mux_items.proofs.Apart.{skipped, written-restricted, has_completed-restricted, is_accepted-restricted, completion_emitted-restricted, termination_emitted-restricted}
 
--- a known channel was offered, and so was a rejected one
+-- a known channel was offered
 
 pub offered_more : (c : ChannelKey) (item : Item) (items : List Item) → is_offered c items ≡ true → is_offered c (item ∷ items) ≡ true
 offered_more c (DidOffer key name size) items e = if_or (same_key key c) (is_offered c items) e
 offered_more c (Got place key (Offer name size)) items e = if_or (same_key key c) (is_offered c items) e
 offered_more c (Rejected place key body) items e = if_or (same_key key c) (is_offered c items) e
 offered_more c item items e = e
-
-pub unoffered_before : (c : ChannelKey) (item : Item) (items : List Item) → is_offered c (item ∷ items) ≡ false → is_offered c items ≡ false
-unoffered_before c item items e = false_from_ne_true (is_offered c items) (λ offered. false≢true (sym e ∙ offered_more c item items offered))
 
 known_next : (c key : ChannelKey) (ks : List ChannelKey) (offered : Bool) → (list_any (same_key c) ks ≡ true → offered ≡ true) → list_any (same_key c) (key ∷ ks) ≡ true → (if same_key key c then true else offered) ≡ true
 known_next c key ks offered h e = elim (or_cases (same_key c key) (list_any (same_key c) ks) e) [
@@ -47,14 +44,6 @@ known_offered c (item ∷ items) e = offered_more c item items (known_offered c 
 
 pub kept_offered : (v : Version) (c : ChannelKey) (items : List Item) → is_kept v c items ≡ true → is_offered c items ≡ true
 kept_offered v c items e = known_offered c items (and_parts (is_known c items) (not (is_closed v c items) || has_bytes (unread v c items)) e).0
-
-pub rejected_offered : (c : ChannelKey) (items : List Item) → is_rejected c items ≡ true → is_offered c items ≡ true
-rejected_offered c [] e = e
-rejected_offered c (Rejected place key body ∷ items) e = elim (cases_Bool (same_key key c)) [
-  | inl same ↦ ap (λ b. if b then true else is_offered c items) same
-  | inr differ ↦ if_or (same_key key c) (is_offered c items) (rejected_offered c items (sym (ap (λ b. if b then true else is_rejected c items) differ) ∙ e))
-]
-rejected_offered c (item ∷ items) e = offered_more c item items (rejected_offered c items e)
 
 -- a peer's offer that isn't refused is the first on its channel
 
@@ -110,10 +99,6 @@ pub offered_first : (v : Version) (c : ChannelKey) (name : List ℕ) (size : ℕ
 offered_first v c name size items ok = (ap (λ (k : ChannelKey). k.own) ok.1, ap (λ k. is_offered k items) ok.1 ∙ next_key_new v items ok.2)
 
 -- an item on a channel that wasn't offered
-
-if_false : (b x : Bool) → (if b then true else x) ≡ false → (b ≡ false) × (x ≡ false)
-if_false true x e = absurd (true≢false e)
-if_false false x e = (refl, e)
 
 unless_offered : (key c : ChannelKey) (items : List Item) → is_offered key items ≡ true → is_offered c items ≡ false → same_key key c ≡ false
 unless_offered key c items e f = elim (key_cases key c) [

@@ -8,24 +8,21 @@ use Rattle.mux_items.specs.Bodies.{Offer, OfferAccepted, ContentWritingCompleted
 use Rattle.mux_items.specs.Items.{Item, DidAccept, DidTerminate, Got, End, is_running}
 use Rattle.mux_items.specs.Lists.{is_cut, is_accepted_in, granted_in, is_completed_in, has_terminated, is_terminated_by_peer, is_rejected, is_finished, termination_emitted, is_accepted, is_completed, granted, is_dropped}
 use Rattle.mux_items.specs.Applying.{Allowed}
+use Rattle.mux_items.proofs.Emission.{if_false}
 use Rattle.mux_items.proofs.Applied.{allowed_tail}
 use Rattle.mux_items.proofs.Newer.{heard_before}
 
 -- cuts
 
-uncut_if : (b x : Bool) → (if b then true else x) ≡ false → (b ≡ false) × (x ≡ false)
-uncut_if true x e = absurd (true≢false e)
-uncut_if false x e = (refl, e)
-
 -- without a cut neither side terminated the channel
 pub uncut_both : (c : ChannelKey) (items : List Item) → is_cut c items ≡ false → (has_terminated c items ≡ false) × (is_terminated_by_peer c items ≡ false)
 uncut_both c [] e = (refl, refl)
 uncut_both c (DidTerminate key ∷ items) e =
-    let parts = uncut_if (same_key key c) (is_cut c items) e in
+    let parts = if_false (same_key key c) (is_cut c items) e in
     let before = uncut_both c items parts.1 in
     (ap (λ b. if b then true else has_terminated c items) parts.0 ∙ before.0, before.1)
 uncut_both c (Got place key ChannelTerminated ∷ items) e =
-    let parts = uncut_if (same_key key c) (is_cut c items) e in
+    let parts = if_false (same_key key c) (is_cut c items) e in
     let before = uncut_both c items parts.1 in
     (before.0, ap (λ b. if b then true else is_terminated_by_peer c items) parts.0 ∙ before.1)
 uncut_both c (End cause ∷ items) e = absurd (true≢false e)
@@ -35,10 +32,10 @@ uncut_both c (item ∷ items) e = uncut_both c items e
 running_uncut : (c : ChannelKey) (items : List Item) → is_running items ≡ true → has_terminated c items ≡ false → is_terminated_by_peer c items ≡ false → is_cut c items ≡ false
 running_uncut c [] runs here peer = refl
 running_uncut c (DidTerminate key ∷ items) runs here peer =
-    let on = uncut_if (same_key key c) (has_terminated c items) here in
+    let on = if_false (same_key key c) (has_terminated c items) here in
     ap (λ b. if b then true else is_cut c items) on.0 ∙ running_uncut c items runs on.1 peer
 running_uncut c (Got place key ChannelTerminated ∷ items) runs here peer =
-    let on = uncut_if (same_key key c) (is_terminated_by_peer c items) peer in
+    let on = if_false (same_key key c) (is_terminated_by_peer c items) peer in
     ap (λ b. if b then true else is_cut c items) on.0 ∙ running_uncut c items runs here on.1
 running_uncut c (End cause ∷ items) runs here peer = absurd (false≢true runs)
 running_uncut c (item ∷ items) runs here peer = running_uncut c items runs here peer

@@ -7,13 +7,14 @@ use Rattle.wire_base.specs.declared.refusal.Refusal.{Refusal}
 use Rattle.wire_base.specs.declared.refusal.Refusal.TheVariants as refusal
 use Rattle.wire_base.specs.declared.reason.Reason.TheVariants as reason
 use Rattle.wire_base.specs.declared.state.Cause.{Cause}
+use Rattle.wire_base.specs.Options.{or_else}
 use Rattle.mux_items.specs.declared.channel.ChannelKey.{ChannelKey}
 use Rattle.mux_items.specs.Bodies.{FrameBody, OfferAccepted, Content, is_one}
 use Rattle.mux_items.specs.Items.{Item, ended, is_running}
 use Rattle.mux_items.specs.Lists.{window, is_offered, has_completed, termination_emitted, is_accepted, is_completed, unread}
 use Rattle.mux_items.specs.Kept.{is_kept, kept_keys, own_windows, own_offers}
 use Rattle.mux_items.specs.Limits.{longest_name, greatest_window, most_windows, most_channels, most_offers}
-use Rattle.mux_items.specs.Refusals.{unless_ended, or_else, is_ready, is_bad_window, is_unaccepted, offer_refusal, accept_refusal, open_refusal, writing_refusal, write_refusal, read_refusal, complete_refusal, terminate_refusal, heeded_refusal, later_refusal, frame_refusal, is_early, is_above_window}
+use Rattle.mux_items.specs.Refusals.{unless_ended, is_ready, is_bad_window, is_unaccepted, offer_refusal, accept_refusal, open_refusal, writing_refusal, write_refusal, read_refusal, complete_refusal, terminate_refusal, heeded_refusal, later_refusal, frame_refusal, is_early, is_above_window}
 
 -- a chain of tests that all fail
 

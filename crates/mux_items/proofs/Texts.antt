@@ -1,5 +1,5 @@
 -- The bytes of several frames.
-use Rattle.std.specs.Prelude.{ℕ, List, [], ◌∷◌, ◌++◌}
+use Rattle.std.specs.Prelude.{List, [], ◌∷◌, ◌++◌}
 use Rattle.std.proofs.Common.{◌≡◌, refl, sym, ◌∙◌, ap, append_assoc}
 use Rattle.wire_base.specs.declared.frame.Version.{Version}
 use Rattle.mux_items.specs.Bodies.{ChannelFrame, frame_text, frame_texts}

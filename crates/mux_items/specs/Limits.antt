@@ -1,38 +1,30 @@
--- How much an end sends, keeps and takes. Sizes are numbers of bytes.
+-- How much an end sends, keeps and takes, as other specs name it.
 use Rattle.std.specs.Prelude.{ℕ}
+use Rattle.mux_items.specs.declared.limits.TheConstants.{NONCE_SIZE, LONGEST_NAME, GREATEST_WINDOW, MOST_WINDOWS, MOST_CHANNELS, MOST_OFFERS, MOST_BYTES, PIECE_SIZE, ABSENT_WINDOW}
 
--- a nonce has so many bytes
 abbrev pub nonce_size : ℕ
-nonce_size = 16
+nonce_size = NONCE_SIZE
 
--- the longest name of a channel that is offered
 abbrev pub longest_name : ℕ
-longest_name = 1024
+longest_name = LONGEST_NAME
 
--- the greatest own window of a channel; the least is 1
 abbrev pub greatest_window : ℕ
-greatest_window = 16777216
+greatest_window = GREATEST_WINDOW
 
--- the most that the own windows of kept channels are together
 abbrev pub most_windows : ℕ
-most_windows = 268435456
+most_windows = MOST_WINDOWS
 
--- the most channels that an end keeps
 abbrev pub most_channels : ℕ
-most_channels = 1024
+most_channels = MOST_CHANNELS
 
--- the most channels that an end offers
 abbrev pub most_offers : ℕ
-most_offers = 2147483647
+most_offers = MOST_OFFERS
 
--- the most bytes that are written on a channel, or fed to an end
 abbrev pub most_bytes : ℕ
-most_bytes = 0x4000000000000000
+most_bytes = MOST_BYTES
 
--- the most bytes of one content frame
 abbrev pub piece_size : ℕ
-piece_size = 20480
+piece_size = PIECE_SIZE
 
--- the window of an offer or an acceptance that names none
 abbrev pub absent_window : ℕ
-absent_window = 102400
+absent_window = ABSENT_WINDOW

@@ -1,5 +1,6 @@
 -- Which calls and frames are refused, and why.
 use Rattle.std.specs.Prelude.{ℕ, ◌+◌, List, length, Bool, true, false, not, ◌&&◌, ◌||◌, nat_lt, nat_le, if◌then◌else◌, Option, Some, None}
+use Rattle.wire_base.specs.Options.{or_else}
 use Rattle.wire_base.specs.declared.frame.Version.{Version}
 use Rattle.wire_base.specs.declared.reason.Reason.{Reason}
 use Rattle.wire_base.specs.declared.reason.Reason.TheVariants as reason
@@ -59,10 +60,6 @@ open_refusal v c items =
     if not (is_kept v c items) then Some refusal.NoChannel
     else if termination_emitted v c items then Some refusal.NotOpen
     else None
-
-abbrev pub or_else : Option Refusal → Option Refusal → Option Refusal
-or_else (Some r) otherwise = Some r
-or_else None otherwise = otherwise
 
 abbrev pub writing_refusal : Version → ChannelKey → List Item → Option Refusal
 writing_refusal v c items = or_else (open_refusal v c items)

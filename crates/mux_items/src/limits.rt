@@ -1,5 +1,7 @@
 //! How much an end sends, keeps and takes. Sizes are numbers of bytes.
 
+use wire_base::MAX_FED;
+
 /// A nonce has so many bytes.
 pub const NONCE_SIZE: usize = 16;
 
@@ -19,7 +21,7 @@ pub const MOST_CHANNELS: usize = 1024;
 pub const MOST_OFFERS: u64 = 2_147_483_647;
 
 /// The most bytes that are written on a channel, or fed to an end.
-pub const MOST_BYTES: u64 = 0x4000_0000_0000_0000;
+pub const MOST_BYTES: u64 = MAX_FED;
 
 /// The most bytes of one content frame.
 pub const PIECE_SIZE: usize = 20_480;

@@ -19,9 +19,9 @@ use Rattle.mux_items.specs.Refusals.{is_ready, is_greeted, frame_refusal}
 use Rattle.mux_items.specs.Applying.{apply_frame, after_frame, lacks_room, place_at}
 use Rattle.mux_items.specs.Parties.{party_by}
 use Rattle.mux_items.specs.Calls.{call_refusal, item_of_call, unless_refused, called}
-use Rattle.mux_run.specs.Run.{RunSide, World, Terms, SideTerms, terms_at_a, terms_at_b, turned, greeting_size, whole_frames, next_frames, place_after, greet, greeted, apply_frames, settled, added, is_spent, delivered_to, stopped, side_after, side_of, happens_at, fresh, start, run}
+use Rattle.mux_run.specs.Run.{RunSide, runs, World, Terms, SideTerms, terms_at_a, terms_at_b, turned, greeting_size, whole_frames, next_frames, place_after, greet, greeted, apply_frames, settled, added, is_spent, delivered_to, stopped, side_after, side_of, happens_at, fresh, start}
 use Rattle.mux_run.specs.Linked.{Linked, Joined}
-use Rattle.mux_run.specs.Fed.{LieWithin, IsFed, AreFed}
+use Rattle.mux_run.specs.Fed.{LieWithin}
 use Rattle.mux_run.specs.Spending.{RunStep, Makes, Spends, spent_at, comes, come_from, run_through}
 use Rattle.mux_run.specs.declared.steps.Side.{Side}
 use Rattle.mux_run.specs.declared.steps.Side.TheVariants.{A, B}
@@ -31,7 +31,18 @@ use Rattle.mux_run.specs.declared.steps.Step.{Step}
 use Rattle.mux_run.specs.declared.steps.Step.TheVariants as step
 use Rattle.mux_run.proofs.WholeFrames.{whole_more, whole_same}
 use Rattle.mux_run.proofs.Growing.{Grown, sent_grows, greeted_grown, called_grown, frames_applied, apply_frames_more, apply_frames_stopped, stopped_grown, side_after_grown}
-use Rattle.mux_run.proofs.Links.{comes_joined, turned_joined, fresh_joined, through_made}
+use Rattle.mux_run.proofs.Links.{comes_joined, turned_joined, fresh_joined}
+
+-- while x runs, it applied what is whole of the bytes that it was given
+pub record IsFed (w : SideTerms) (x y : RunSide) : Type 0 where
+  pub lie : LieWithin w x.delivered x.items y
+  pub all : runs x ≡ true → is_ready w.version x.items ≡ true → next_frames w x.delivered (length (got x.items)) y ≡ []
+  pub short : runs x ≡ true → is_ready w.version x.items ≡ false → x.delivered < greeting_size w
+
+-- both ways between two sides
+pub record AreFed (w : SideTerms) (x y : RunSide) : Type 0 where
+  pub into : IsFed w x y
+  pub back : IsFed (turned w) y x
 
 -- frames and calls leave the greeting
 
@@ -252,6 +263,3 @@ fresh_fed w = record {
 
 pub through_fed : (terms : Terms) (steps : List RunStep) → AreFed (terms_at_a terms) (run_through terms steps).a (run_through terms steps).b
 through_fed terms steps = come_from_fed terms start steps (fresh_joined (terms_at_a terms)) (record { into = fresh_fed (terms_at_a terms); back = fresh_fed (terms_at_b terms) })
-
-pub run_fed : (terms : Terms) (steps : List Step) → AreFed (terms_at_a terms) (run terms steps).a (run terms steps).b
-run_fed terms steps = subst (λ w. AreFed (terms_at_a terms) w.a w.b) (through_made terms steps) (through_fed terms (map Makes steps))

@@ -63,12 +63,6 @@ pub out-more : (v : Version) (nonce : List ℕ) (before after : List Item) (more
 out-more v nonce before after more e =
     ap (λ fs. hello v nonce ++ frame_texts v fs) e ∙ (ap (λ bs. hello v nonce ++ bs) (frame_texts-append v (sent v before) more) ∙ sym (append_assoc (hello v nonce) (frame_texts v (sent v before)) (frame_texts v more)))
 
--- what a side emitted grows with its items
-pub out-grows : (v : Version) (nonce : List ℕ) (newer items : List Item) → (more : List ℕ) × (out v nonce (newer ++ items) ≡ out v nonce items ++ more)
-out-grows v nonce newer items =
-    let on = sent-newer v newer items in
-    (frame_texts v on.0, out-more v nonce items (newer ++ items) on.0 on.1)
-
 -- a call
 
 unless_refused_grown : (v : Version) (c : Call) (items : List Item) (refusal : Option Refusal) → call_refusal v c items ≡ refusal → Grown v items (unless_refused refusal (item_of_call c items) items) []

@@ -1,3 +1,4 @@
+pub mod Cuts
 pub mod WholeFrames
 pub mod Growing
 pub mod Between

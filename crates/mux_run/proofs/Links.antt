@@ -1,6 +1,6 @@
 -- The two sides of every run hang together.
 use Rattle.std.specs.Prelude.{if◌then◌else◌, not, Bool, true, false}
-use Rattle.std.proofs.Common.{◌≡◌, ℕ, ◌+◌, ◌≤◌, List, [], ◌∷◌, ◌++◌, length, map, refl, ap, subst, arith, length-append, length-drop}
+use Rattle.std.proofs.Common.{◌≡◌, ℕ, ◌+◌, ◌≤◌, List, [], ◌∷◌, ◌++◌, length, map, refl, ap, arith, length-append, length-drop}
 use Rattle.wire_base.specs.declared.state.Cause.{Cause}
 use Rattle.wire_base.specs.declared.state.Cause.TheVariants as cause
 use Rattle.mux_items.specs.Bodies.{flip, frame_texts}
@@ -117,15 +117,8 @@ come_made terms w (s ∷ steps) = come_made terms (happens terms s w) steps
 pub through_made : (terms : Terms) (steps : List Step) → run_through terms (map Makes steps) ≡ run terms steps
 through_made terms steps = come_made terms start steps
 
-pub run_joined : (terms : Terms) (steps : List Step) → Joined (terms_at_a terms) (run terms steps).a (run terms steps).b
-run_joined terms steps = subst (λ w. Joined (terms_at_a terms) w.a w.b) (through_made terms steps) (through_joined terms (map Makes steps))
-
 -- one more step at the end
 
 pub come_from-push : (terms : Terms) (w : World) (steps : List RunStep) (s : RunStep) → come_from terms w (steps ++ s ∷ []) ≡ comes terms s (come_from terms w steps)
 come_from-push terms w [] s = refl
 come_from-push terms w (t ∷ steps) s = come_from-push terms (comes terms t w) steps s
-
-pub run_from-push : (terms : Terms) (w : World) (steps : List Step) (s : Step) → run_from terms w (steps ++ s ∷ []) ≡ happens terms s (run_from terms w steps)
-run_from-push terms w [] s = refl
-run_from-push terms w (t ∷ steps) s = run_from-push terms (happens terms t w) steps s

@@ -6,9 +6,9 @@ use Rattle.frame_text.specs.Hello.{hello}
 use Rattle.mux_items.specs.Bodies.{ChannelFrame, frame_text, frame_texts}
 use Rattle.mux_items.specs.Due.{sent}
 use Rattle.mux_run.specs.Run.{RunSide, SideTerms, out, greeting_size, whole_frames, next_frames, place_after}
-use Rattle.mux_run.specs.Cuts.{IsCut}
+use Rattle.mux_run.proofs.Cuts.{IsCut}
 use Rattle.mux_items.proofs.Texts.{frame_texts-append}
-use Rattle.mux_run.proofs.WholeFrames.{take-append-ge, take_whole, cut_after, drop_next, take_next}
+use Rattle.mux_run.proofs.WholeFrames.{take-append-ge, take_whole, cut_after, take_next}
 
 -- fewer bytes than the handshake
 pub stream_short : (w : SideTerms) (given : ℕ) (y : RunSide) → given ≤ greeting_size w → take given (out w.version w.peer y.items) ≡ take given (hello w.version w.peer)
@@ -33,12 +33,6 @@ stream_cut w given k y h within =
     subst (λ bs. IsCut w.version bs (next_frames w given k y) (drop (length (whole_frames w.version n frames)) frames)) bytes (cut_after w.version n k frames within)
 
 -- one more frame is applied
-
-pub next_frames_more : (w : SideTerms) (given k : ℕ) (y : RunSide) (f : ChannelFrame) (fs : List ChannelFrame) → next_frames w given k y ≡ f ∷ fs → next_frames w given (k + 1) y ≡ fs
-next_frames_more w given k y f fs e =
-    let whole = whole_frames w.version (given - greeting_size w) (sent w.version y.items) in
-    ap (λ n. drop n whole) (add-one k) ∙ drop_next k whole f fs e
-
 pub place_after_more : (w : SideTerms) (given k : ℕ) (y : RunSide) (f : ChannelFrame) (fs : List ChannelFrame) → next_frames w given k y ≡ f ∷ fs → place_after w (k + 1) y ≡ place_after w k y + length (frame_text w.version f)
 place_after_more w given k y f fs e =
     let n = given - greeting_size w in
@@ -50,10 +44,3 @@ place_after_more w given k y f fs e =
     let texts : frame_texts w.version (take (k + 1) frames) ≡ frame_texts w.version (take k frames) ++ frame_text w.version f =
     ap (λ n. frame_texts w.version (take n frames)) (add-one k) ∙ (ap (frame_texts w.version) first ∙ (frame_texts-append w.version (take k frames) (f ∷ []) ∙ ap (λ bs. frame_texts w.version (take k frames) ++ bs) (append-nil (frame_text w.version f)))) in
     omega (arith, ap length texts, length-append (frame_texts w.version (take k frames)) (frame_text w.version f))
-
--- so many frames as were applied, and more whole frames, are not above the whole ones
-pub next_frames_within : (w : SideTerms) (given k : ℕ) (y : RunSide) (f : ChannelFrame) (fs : List ChannelFrame) → next_frames w given k y ≡ f ∷ fs → k + 1 ≤ length (whole_frames w.version (given - greeting_size w) (sent w.version y.items))
-next_frames_within w given k y f fs e =
-    let whole = whole_frames w.version (given - greeting_size w) (sent w.version y.items) in
-    let size : length whole - k ≡ suc (length fs) = sym (length-drop k whole) ∙ ap length e in
-    omega arith

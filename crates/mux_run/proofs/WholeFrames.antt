@@ -3,7 +3,7 @@ use Rattle.std.specs.Prelude.{if◌then◌else◌, nat_lt, Bool, true, false, ze
 use Rattle.std.specs.Int.{to_be_bytes, w16, w32}
 use Rattle.std.proofs.Common.{◌≡◌, ℕ, ◌+◌, ◌-◌, ◌<◌, ◌≤◌, List, [], ◌∷◌, ◌++◌, length, take, drop, refl, sym, ◌∙◌, ap, inl, inr, arith, length-append, length-drop, append_assoc, le-leb, take-add}
 use Rattle.std.proofs.lemmas.Bool.{cases_lt, lt-leb}
-use Rattle.std.proofs.lemmas.List.{take_at, drop_at, take-append-le, take-append-drop}
+use Rattle.std.proofs.lemmas.List.{take_all, take_at, drop_at, take-append-le, take-append-drop}
 use Rattle.wire_base.specs.declared.frame.Version.{Version}
 use Rattle.wire_base.specs.declared.frame.Version.TheVariants as version
 use Rattle.wire_base.specs.declared.frame.Frame.{Frame}
@@ -12,7 +12,7 @@ use Rattle.frame_text.specs.Frames.{text, packed_text, payload_text, is_empty, c
 use Rattle.mux_items.specs.Bodies.{ChannelFrame, frame_of, frame_text, frame_texts}
 use Rattle.mux_items.proofs.Texts.{frame_texts-append}
 use Rattle.mux_run.specs.Run.{whole_frames}
-use Rattle.mux_run.specs.Cuts.{IsCut}
+use Rattle.mux_run.proofs.Cuts.{IsCut}
 
 -- Texts have bytes.
 
@@ -47,14 +47,6 @@ frame_text_not_empty v f = text_not_empty v (frame_of v f)
 
 -- Lists.
 
-pub take_nil : {A : Type 0} (n : ℕ) → take {A = A} n [] ≡ []
-take_nil zero = refl
-take_nil (suc n) = refl
-
-pub drop_nil : {A : Type 0} (n : ℕ) → drop {A = A} n [] ≡ []
-drop_nil zero = refl
-drop_nil (suc n) = refl
-
 pub take-append-ge : (n : ℕ) (xs ys : List ℕ) → length xs ≤ n → take n (xs ++ ys) ≡ xs ++ take (n - length xs) ys
 take-append-ge n xs ys h =
     let sum : n ≡ length xs + (n - length xs) = omega arith in
@@ -88,7 +80,7 @@ whole_fits v n (f ∷ fs) = elim (cases_lt n (length (frame_text v f))) [
 
 -- the first bytes of frames are the texts of the whole frames, and then a part of the next frame's text
 pub whole_frames_split : (v : Version) (n : ℕ) (fs : List ChannelFrame) → IsCut v (take n (frame_texts v fs)) (whole_frames v n fs) (drop (length (whole_frames v n fs)) fs)
-whole_frames_split v n [] = record { part = []; is = take_nil n; begins = refl }
+whole_frames_split v n [] = record { part = []; is = take_all n [] (omega arith); begins = refl }
 whole_frames_split v n (f ∷ fs) = elim (cases_lt n (length (frame_text v f))) [
   | inl h ↦
       let t = frame_text v f in
@@ -106,22 +98,6 @@ whole_frames_split v n (f ∷ fs) = elim (cases_lt n (length (frame_text v f))) 
         is = take-append-ge n t (frame_texts v fs) h ∙ (ap (λ bs. t ++ bs) on.is ∙ sym (append_assoc t (frame_texts v (whole_frames v m fs)) on.part));
         begins = on.begins;
       })
-]
-
--- the frame after them does not fit
-pub whole_next : (v : Version) (n : ℕ) (fs : List ChannelFrame) (g : ChannelFrame) (gs : List ChannelFrame) → drop (length (whole_frames v n fs)) fs ≡ g ∷ gs → n < length (frame_texts v (whole_frames v n fs)) + length (frame_text v g)
-whole_next v n [] g gs e = cc
-whole_next v n (f ∷ fs) g gs e = elim (cases_lt n (length (frame_text v f))) [
-  | inl h ↦
-      let none = whole_stops v n f fs h in
-      let same : f ∷ fs ≡ g ∷ gs = ap (λ ws. drop (length ws) (f ∷ fs)) (sym none) ∙ e in
-      let head : f ≡ g = cc (same) in
-      rw (none, ← head) (omega arith)
-  | inr h ↦
-      let m = n - length (frame_text v f) in
-      let some = whole_here v n f fs h in
-      let on : m < length (frame_texts v (whole_frames v m fs)) + length (frame_text v g) = whole_next v m fs g gs (ap (λ ws. drop (length ws) (f ∷ fs)) (sym some) ∙ e) in
-      rw some (omega (arith, length-append (frame_text v f) (frame_texts v (whole_frames v m fs)), on))
 ]
 
 -- more bytes have all whole frames of fewer
@@ -165,21 +141,6 @@ pub take_whole : (v : Version) (n k : ℕ) (fs : List ChannelFrame) → k ≤ le
 take_whole v n k fs h =
     ap (take k) (sym (whole_front v n fs)) ∙ take-append-le k (whole_frames v n fs) (drop (length (whole_frames v n fs)) fs) h
 
--- what is whole after the first k frames, which are whole
-pub whole_after : (v : Version) (n k : ℕ) (fs : List ChannelFrame) → k ≤ length (whole_frames v n fs) → drop k (whole_frames v n fs) ≡ whole_frames v (n - length (frame_texts v (take k fs))) (drop k fs)
-whole_after v n zero fs h =
-    let same : n ≡ n - 0 = omega arith in
-    ap (λ m. whole_frames v m fs) same
-whole_after v n (suc k) [] h = absurd (omega arith)
-whole_after v n (suc k) (f ∷ fs) h = elim (cases_lt n (length (frame_text v f))) [
-  | inl i ↦ absurd (omega (arith, ap length (whole_stops v n f fs i)))
-  | inr i ↦
-      let m = n - length (frame_text v f) in
-      let some = whole_here v n f fs i in
-      let count : m - length (frame_texts v (take k fs)) ≡ n - length (frame_texts v (take (suc k) (f ∷ fs))) = omega (arith, length-append (frame_text v f) (frame_texts v (take k fs))) in
-      ap (drop (suc k)) some ∙ (whole_after v m k fs (omega (arith, ap length some)) ∙ ap (λ m. whole_frames v m (drop k fs)) count)
-]
-
 -- the bytes after the first k frames, which are whole
 pub cut_after : (v : Version) (n k : ℕ) (fs : List ChannelFrame) → k ≤ length (whole_frames v n fs)
     → IsCut v (drop (length (frame_texts v (take k fs))) (take n (frame_texts v fs))) (drop k (whole_frames v n fs)) (drop (length (whole_frames v n fs)) fs)
@@ -197,12 +158,6 @@ cut_after v n k fs h =
     }
 
 -- one more of some elements
-
-pub drop_next : {A : Type 0} (k : ℕ) (xs : List A) (x : A) (rest : List A) → drop k xs ≡ x ∷ rest → drop (suc k) xs ≡ rest
-drop_next zero [] x rest e = cc
-drop_next zero (y ∷ xs) x rest e = cc
-drop_next (suc k) [] x rest e = cc
-drop_next (suc k) (y ∷ xs) x rest e = drop_next k xs x rest e
 
 pub take_next : {A : Type 0} (k : ℕ) (xs : List A) (x : A) (rest : List A) → drop k xs ≡ x ∷ rest → take (suc k) xs ≡ take k xs ++ x ∷ []
 take_next zero [] x rest e = cc

@@ -2,7 +2,6 @@ pub mod Run
 pub mod Moments
 pub mod Between
 pub mod Linked
-pub mod Cuts
 pub mod Fed
 pub mod Safe
 pub mod Spending

@@ -1,6 +1,6 @@
 //! Laws of every run.
 
-ghost use Rattle.std.specs.Prelude.{◌≡◌, ◌∷◌, List, ℕ, false, true, None};
+ghost use Rattle.std.specs.Prelude.{◌≡◌, ◌∷◌, List, ℕ, false, true};
 ghost use Rattle.wire_base.specs.declared.frame.Version.{Version};
 ghost use Rattle.wire_base.specs.declared.state.Cause.{Cause};
 ghost use Rattle.mux_items.specs.declared.call.Call.{Call};

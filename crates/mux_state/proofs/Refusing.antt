@@ -5,13 +5,14 @@ use Rattle.std.proofs.lemmas.Bool.{cases_Bool}
 use Rattle.wire_base.specs.declared.frame.Version.{Version}
 use Rattle.wire_base.specs.declared.refusal.Refusal.{Refusal}
 use Rattle.wire_base.specs.declared.refusal.Refusal.TheVariants as refusal
+use Rattle.wire_base.specs.Options.{or_else}
 use Rattle.mux_items.specs.declared.channel.ChannelKey.{ChannelKey}
 use Rattle.mux_items.specs.Bodies.{FrameBody, Offer, OfferAccepted, Content, ContentWritingCompleted, ChannelTerminated, ContentProcessed}
 use Rattle.mux_items.specs.Items.{Item, ended}
 use Rattle.mux_items.specs.Lists.{written, emitted, has_terminated, is_terminated_by_peer, is_cut, is_finished, is_offered, is_rejected, is_accepted, termination_emitted}
 use Rattle.mux_items.specs.Kept.{is_known, is_kept, own_windows}
 use Rattle.mux_items.specs.Limits.{most_windows}
-use Rattle.mux_items.specs.Refusals.{is_bad_window, or_else, unless_ended, accept_refusal, write_refusal, read_refusal, complete_refusal, terminate_refusal, later_refusal, heeded_refusal}
+use Rattle.mux_items.specs.Refusals.{is_bad_window, unless_ended, accept_refusal, write_refusal, read_refusal, complete_refusal, terminate_refusal, later_refusal, heeded_refusal}
 use Rattle.mux_items.specs.Views.{view_of, tally_of}
 use Rattle.mux_items.specs.Applying.{frame_event}
 use Rattle.std.proofs.lemmas.List.{length-drop}

@@ -10,14 +10,15 @@ use Rattle.mux_items.specs.Items.{Item, Hello, DidOffer, DidAccept, DidWrite, Di
 use Rattle.mux_items.specs.Lists.{written, is_cut, emitted_in, emitted, has_terminated, is_terminated_by_peer, is_rejected, is_finished, completion_in, completion_emitted, termination_emitted}
 use Rattle.mux_items.specs.Due.{content_frames, span, newly_emitted, completes, terminates, due_on, due}
 use Rattle.mux_items.specs.Applying.{Allowed}
-use Rattle.mux_items.proofs.Emits.{none_emitted, cut_there}
+use Rattle.mux_items.proofs.Emission.{cut_there}
+use Rattle.mux_items.proofs.Emits.{none_emitted}
 use Rattle.mux_items.proofs.Keys.{same_key_refl, same_key_true}
 use Rattle.mux_items.proofs.Permits.{accept_permits, complete_permits, terminate_permits, write_permits}
 use Rattle.mux_state.specs.State.{ChannelState, channel_at}
 use Rattle.mux_state.specs.Next.{sendable, is_done, frames_due, closed_state}
 use Rattle.mux_state.specs.Tests.{first_frame, due_in}
 use Rattle.mux_state.proofs.Open.{unsent, emitted_open, done_open, terminated_open}
-use Rattle.mux_state.proofs.Step.{IsOpen, is_open, absorbed_accept, absorbed_write, absorbed_complete, absorbed_answer, absorbed_content, absorbed_completion, absorbed_credit}
+use Rattle.mux_state.proofs.Step.{IsOpen, is_open, or_second, absorbed_accept, absorbed_write, absorbed_complete, absorbed_answer, absorbed_content, absorbed_completion, absorbed_credit}
 use Rattle.mux_state.proofs.Ignored.{StaysSent, stays_sent}
 use Rattle.mux_state.proofs.Law.{open_offered, absorbed_offered, open_heard, absorbed_heard, heard_or_sent}
 
@@ -84,10 +85,6 @@ closed_frames c s = elim (cases_Bool s.termination_sent) [
   | inl e ↦ rw e refl
   | inr e ↦ rw e refl
 ]
-
-or_second : (a r b : Bool) → (a || true || r || b) ≡ true
-or_second true r b = refl
-or_second false r b = refl
 
 due_closed : (v : Version) (place : ℕ) (c : ChannelKey) (items : List Item) → due_on v c [] (Got place c ChannelTerminated) items ≡ frames_due c (closed_state (channel_at v c items))
 due_closed v place c items =

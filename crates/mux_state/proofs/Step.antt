@@ -130,7 +130,7 @@ settled_closed s = elim (cases_Bool s.termination_sent) [
   | inr e ↦ rw e refl
 ]
 
-or_second : (a r b : Bool) → (a || true || r || b) ≡ true
+pub or_second : (a r b : Bool) → (a || true || r || b) ≡ true
 or_second true r b = refl
 or_second false r b = refl
 

@@ -5,6 +5,7 @@ use Rattle.wire_base.specs.declared.reason.Reason.{Reason}
 use Rattle.wire_base.specs.declared.reason.Reason.TheVariants as reason
 use Rattle.wire_base.specs.declared.refusal.Refusal.{Refusal}
 use Rattle.wire_base.specs.declared.refusal.Refusal.TheVariants as refusal
+use Rattle.wire_base.specs.Options.{or_else}
 use Rattle.mux_items.specs.declared.channel.ChannelKey.{ChannelKey}
 use Rattle.mux_items.specs.declared.channel.ChannelView.{ChannelView}
 use Rattle.mux_items.specs.declared.channel.MuxEvent.{MuxEvent}
@@ -15,7 +16,7 @@ use Rattle.mux_items.specs.declared.channel.Tally.{Tally}
 use Rattle.mux_items.specs.Bodies.{FrameBody, Offer, OfferAccepted, Content, ContentWritingCompleted, ChannelTerminated, ContentProcessed, ChannelFrame, frame_on, is_one}
 use Rattle.mux_items.specs.Items.{Item, Hello, DidOffer, DidAccept, DidRead, DidTerminate, Rejected, End}
 use Rattle.mux_items.specs.Limits.{most_bytes, most_windows}
-use Rattle.mux_items.specs.Refusals.{is_bad_window, or_else}
+use Rattle.mux_items.specs.Refusals.{is_bad_window}
 use Rattle.mux_items.specs.Applying.{heeded_event}
 use Rattle.mux_items.specs.Kept.{has_bytes}
 use Rattle.mux_items.specs.Due.{written_window}

@@ -38,8 +38,8 @@ abbrev pub text_of : {old new : SourceState} → ReadScript old new → List ℕ
 text_of s = report_text s.terms s.steps
 
 -- the output has grown by exactly the report of the run of the script that was read. At every moment that run is safe, keeps
--- its credit, has one outcome for each request and its connections exchange messages in order, and at its end nothing whole
--- is left to either side
+-- its credit and has one outcome for each request, its connections exchange messages and the pages of sequences in order and
+-- answer a request once at most, and handles rest after their end; at its end nothing whole is left to either side
 pub record ReplayDone (old new : SourceState) (before after : SinkState) : Type 0 where
   pub script : ReadScript old new
   pub written : after.given ≡ append_known before.given (text_of script)

@@ -17,7 +17,7 @@ use Rattle.pack_value.specs.Reading.{counted, run_at, text_at, key_of, key_at, r
 use Rattle.wire_base.specs.Values.{nesting, nestings, pair_nestings}
 use Rattle.pack_value.specs.Spelling.{IsHead, IsHeaded, SpellsText, Spells, SpellsAll, SpellsPairs, count, pair_count, max_len}
 use Rattle.pack_value.proofs.Levels.{value_at-is}
-use Rattle.pack_value.proofs.Lists.{trees_of-list_of, pairs_of-list_of}
+use Rattle.wire_base.proofs.Back.{trees_of-list_of, pairs_of-list_of}
 use Rattle.wire_base.proofs.HeadLemmas.{head_stays}
 
 otherwise : {A : Type 0} (b : Bool) (x y : A) → b ≡ false → cond b x y ≡ y

@@ -16,8 +16,9 @@ use Rattle.wire_base.specs.Head.{Kind, whole_head, unsigned, signed, str, bin, a
 use Rattle.wire_base.specs.declared.reading.Fault.{Fault}
 use Rattle.wire_base.specs.declared.reading.Fault.TheVariants.{Ends, Breaks}
 use Rattle.pack_value.specs.Spelling.{max_len}
-use Rattle.pack_value.specs.Tokens.{Want, value, key, levels, opens, is_text, place_rule, first_rule, length_rule, body_len, content_rule, times, wants_of, Next, takes, cut, breaks, or_next, next_by_content, next_by_head, next_of}
-use Rattle.wire_base.specs.Tokens.{Reading, Reader, follow, ◌>>=◌, done, bytes_at}
+use Rattle.pack_value.specs.Tokens.{Want, value, key, levels, opens, place_rule, first_rule, length_rule, content_rule, times, wants_of, Next, takes, cut, breaks, or_next, next_by_content, next_by_head, next_of}
+use Rattle.wire_base.specs.Rules.{body_size}
+use Rattle.wire_base.specs.Tokens.{Reading, Reader, follow, ◌>>=◌, done, is_str, bytes_at}
 use Rattle.pack_value.specs.Reading.{counted_of, run_at, text_at, fault_of, cut_head, key_of, key_at, repeat, pair_at, behind, at_head, too_deep, value_at}
 
 -- ---- tokens that pass
@@ -107,7 +108,7 @@ never_refused true g m r e = cc
 never_refused false g m r e = cc
 
 abbrev rule_of : Want → TokenHead → Option Reason
-rule_of w h = place_rule w (opens (whole_head h)) (is_text (whole_head h))
+rule_of w h = place_rule w (opens (whole_head h)) (is_str (whole_head h))
 
 first_by_head : (w : Want) (k : Kind) (rest : List ℕ) (h : TokenHead) (n : ℕ) → read_kind k rest ≡ step.Got h n → first_rule w k ≡ rule_of w h
 first_by_head w (whole_head g) rest h n e = let same : g ≡ h = cc in ap (rule_of w) same
@@ -129,7 +130,7 @@ first_if_refused w (array x) rest r e = absurd (never_refused (ltb (length rest)
 first_if_refused w (map x) rest r e = absurd (never_refused (ltb (length rest) (byte_len x)) (token.Map (from_be_bytes x (take (byte_len x) rest))) (byte_len x + 1) r e)
 first_if_refused w (refused s) rest r e = let same : s ≡ r = cc in ap (λ x. Some x) same
 
-first_if_short : (w : Want) (k : Kind) (rest : List ℕ) → read_kind k rest ≡ step.Short → first_rule w k ≡ place_rule w (opens k) (is_text k)
+first_if_short : (w : Want) (k : Kind) (rest : List ℕ) → read_kind k rest ≡ step.Short → first_rule w k ≡ place_rule w (opens k) (is_str k)
 first_if_short w (whole_head g) rest e = refl
 first_if_short w (unsigned x) rest e = refl
 first_if_short w (signed x) rest e = refl
@@ -157,9 +158,9 @@ next_if_short : (w : Want) (b : List ℕ) → head_of b ≡ step.Short → Says 
 unfolding cut_head
 next_if_short w [] e = refl
 next_if_short w (x ∷ rest) e =
-    says_rule (place_rule w (opens (kind_of x)) (is_text (kind_of x))) w (x ∷ rest)
+    says_rule (place_rule w (opens (kind_of x)) (is_str (kind_of x))) w (x ∷ rest)
     (ap (λ o. or_next o (next_by_head w (head_of (x ∷ rest)) (x ∷ rest))) (first_if_short w (kind_of x) rest e)
-    ∙ ap (λ s. or_next (place_rule w (opens (kind_of x)) (is_text (kind_of x))) (next_by_head w s (x ∷ rest))) e)
+    ∙ ap (λ s. or_next (place_rule w (opens (kind_of x)) (is_str (kind_of x))) (next_by_head w s (x ∷ rest))) e)
 
 -- ---- runs and texts
 
@@ -199,10 +200,10 @@ follows_run w b len n e =
 
 -- ---- values
 
-no_body : (w : Want) (h : TokenHead) (n : ℕ) (rest : List ℕ) → body_len h ≡ 0 → content_rule h (take (body_len h) rest) ≡ None → next_by_content w h n rest ≡ takes n (wants_of (levels w) h)
+no_body : (w : Want) (h : TokenHead) (n : ℕ) (rest : List ℕ) → body_size h ≡ 0 → content_rule h (take (body_size h) rest) ≡ None → next_by_content w h n rest ≡ takes n (wants_of (levels w) h)
 no_body w h n rest e f = rw (f, e, le-ltb (length rest) 0 (omega arith), add-zero n) refl
 
-next_if_alone : (w : Want) (b : List ℕ) (h : TokenHead) (n : ℕ) → head_of b ≡ step.Got h n → body_len h ≡ 0 → content_rule h (take (body_len h) (drop n b)) ≡ None
+next_if_alone : (w : Want) (b : List ℕ) (h : TokenHead) (n : ℕ) → head_of b ≡ step.Got h n → body_size h ≡ 0 → content_rule h (take (body_size h) (drop n b)) ≡ None
     → next_of w b ≡ or_next (rule_of w h) (or_next (length_rule h) (takes n (wants_of (levels w) h)))
 next_if_alone w b h n e f g = next_if_got w b h n e ∙ ap (λ x. or_next (rule_of w h) (or_next (length_rule h) x)) (no_body w h n (drop n b) f g)
 

@@ -1,22 +1,10 @@
--- Lists of trees, and what they were made of.
+-- Lists of trees, by their lengths and their items.
 use Rattle.std.proofs.Common.{◌≡◌, ℕ, ◌+◌, ◌<◌, List, [], ◌∷◌, length, get_or, drop, refl, sym, ap, ◌∙◌, append_assoc, arith}
 use Rattle.std.proofs.lemmas.List.{drop_more}
-use Rattle.wire_base.specs.Tree.{Tree, Trees, no_items, item, Pairs, no_pairs, pair, trees_of, pairs_of, list_of, pair_list_of}
+use Rattle.wire_base.specs.Tree.{Tree, trees_of, pairs_of}
 use Rattle.wire_base.proofs.Walks.{weight_at, pair_weight_at}
 use Rattle.wire_base.proofs.AppendsLemmas.{appends_none, appends_first, appends_second, to_all, to_rest, to_none, to_cut}
 use Rattle.pack_value.specs.Spelling.{count, pair_count}
-
-pub list_of-trees_of : (ts : List Tree) → list_of (trees_of ts) ≡ ts
-list_of-trees_of [] = refl
-list_of-trees_of (t ∷ ts) = ap (λ (us : List Tree). t ∷ us) (list_of-trees_of ts)
-
-pub trees_of-list_of : (ts : Trees) → trees_of (list_of ts) ≡ ts
-trees_of-list_of no_items = refl
-trees_of-list_of (item t ts) = ap (item t) (trees_of-list_of ts)
-
-pub pairs_of-list_of : (ps : Pairs) → pairs_of (pair_list_of ps) ≡ ps
-pairs_of-list_of no_pairs = refl
-pairs_of-list_of (pair k t ps) = ap (pair k t) (pairs_of-list_of ps)
 
 pub count-length : (ts : List Tree) → count (trees_of ts) ≡ length ts
 count-length [] = refl

@@ -8,7 +8,8 @@ use Rattle.wire_base.specs.declared.token.HeadStep.{HeadStep}
 use Rattle.wire_base.specs.declared.token.HeadStep.TheVariants as step
 use Rattle.wire_base.specs.Head.{kind_of, head_of}
 use Rattle.wire_base.specs.declared.reading.Fault.TheVariants.{Ends, Breaks}
-use Rattle.pack_value.specs.Tokens.{Want, levels, first_rule, length_rule, body_len, content_rule, wants_of, Next, takes, cut, breaks, or_next, next_by_content, next_by_head, next_of, BreaksAfter}
+use Rattle.pack_value.specs.Tokens.{Want, levels, first_rule, length_rule, content_rule, wants_of, Next, takes, cut, breaks, or_next, next_by_content, next_by_head, next_of, BreaksAfter}
+use Rattle.wire_base.specs.Rules.{body_size}
 use Rattle.wire_base.proofs.HeadLemmas.{head_stays, refused_stays}
 use Rattle.pack_value.proofs.Heads.{head-front}
 use Rattle.pack_value.proofs.Follows.{Passes, Reaches, Stopped}
@@ -32,10 +33,10 @@ by_head_within w (step.Refused r) b n more h e = absurd cc
 by_head_within w (step.Got t k) b n more h e =
     let rest = drop k b in
     let f = or_takes (length_rule t) (next_by_content w t k rest) n more e in
-    let g = not_cut (ltb (length rest) (body_len t)) (or_next (content_rule t (take (body_len t) rest)) (takes (k + body_len t) (wants_of (levels w) t))) n more f in
-    let i = or_takes (content_rule t (take (body_len t) rest)) (takes (k + body_len t) (wants_of (levels w) t)) n more g.1 in
-    let same = same_len (k + body_len t) n (wants_of (levels w) t) more i in
-    let room : body_len t ≤ length (drop k b) = ltb-false (length rest) (body_len t) g.0 in
+    let g = not_cut (ltb (length rest) (body_size t)) (or_next (content_rule t (take (body_size t) rest)) (takes (k + body_size t) (wants_of (levels w) t))) n more f in
+    let i = or_takes (content_rule t (take (body_size t) rest)) (takes (k + body_size t) (wants_of (levels w) t)) n more g.1 in
+    let same = same_len (k + body_size t) n (wants_of (levels w) t) more i in
+    let room : body_size t ≤ length (drop k b) = ltb-false (length rest) (body_size t) g.0 in
     let front = head-front b t k h in
     omega (arith, same, room, front.within, length-drop k b)
 
@@ -118,11 +119,11 @@ room_of false x settled = refl
 
 content_more : (w : Want) (h : TokenHead) (n : ℕ) (rest more : List ℕ) → (next_by_content w h n rest ≡ cut → ⊥) → next_by_content w h n (rest ++ more) ≡ next_by_content w h n rest
 content_more w h n rest more settled =
-    let whole = takes (n + body_len h) (wants_of (levels w) h) in
-    let room : body_len h ≤ length rest = ltb-false (length rest) (body_len h) (room_of (ltb (length rest) (body_len h)) (or_next (content_rule h (take (body_len h) rest)) whole) settled) in
-    let e : take (body_len h) (rest ++ more) ≡ take (body_len h) rest = take-append-le (body_len h) rest more room in
-    rw e (same_content (ltb (length rest) (body_len h)) (ltb (length (rest ++ more)) (body_len h)) (or_next (content_rule h (take (body_len h) rest)) whole)
-    (le-ltb (length (rest ++ more)) (body_len h) (omega (arith, room, length-append rest more))) settled)
+    let whole = takes (n + body_size h) (wants_of (levels w) h) in
+    let room : body_size h ≤ length rest = ltb-false (length rest) (body_size h) (room_of (ltb (length rest) (body_size h)) (or_next (content_rule h (take (body_size h) rest)) whole) settled) in
+    let e : take (body_size h) (rest ++ more) ≡ take (body_size h) rest = take-append-le (body_size h) rest more room in
+    rw e (same_content (ltb (length rest) (body_size h)) (ltb (length (rest ++ more)) (body_size h)) (or_next (content_rule h (take (body_size h) rest)) whole)
+    (le-ltb (length (rest ++ more)) (body_size h) (omega (arith, room, length-append rest more))) settled)
 
 by_head_more : (w : Want) (s : HeadStep) (b more : List ℕ) → head_of b ≡ s → (next_by_head w s b ≡ cut → ⊥) → next_by_head w (head_of (b ++ more)) (b ++ more) ≡ next_by_head w s b
 by_head_more w step.Short b more h settled = absurd (settled refl)

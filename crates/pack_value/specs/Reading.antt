@@ -11,9 +11,9 @@ use Rattle.wire_base.specs.declared.token.HeadStep.TheVariants as step
 use Rattle.wire_base.specs.Head.{kind_of, head_of}
 use Rattle.wire_base.specs.declared.reading.Fault.{Fault}
 use Rattle.wire_base.specs.declared.reading.Fault.TheVariants.{Ends, Breaks}
-use Rattle.wire_base.specs.Tokens.{Reading, Reader, follow, ◌>>=◌, done, bytes_at}
+use Rattle.wire_base.specs.Tokens.{Reading, Reader, follow, ◌>>=◌, done, is_str, bytes_at}
 use Rattle.pack_value.specs.Spelling.{max_len}
-use Rattle.pack_value.specs.Tokens.{Want, value, key, opens, is_text, place_rule}
+use Rattle.pack_value.specs.Tokens.{Want, value, key, opens, place_rule}
 
 -- A length or count that is allowed, or a refusal of a token that begins left bytes before the end.
 abbrev pub counted : {A : Type 0} → ℕ → ℕ → Reading A → Reading A
@@ -33,7 +33,7 @@ fault_of None left = Ends
 -- What the first byte of a head that isn't whole says.
 unfoldable pub cut_head : Want → List ℕ → Fault
 cut_head w [] = Ends
-cut_head w (b ∷ rest) = fault_of (place_rule w (opens (kind_of b)) (is_text (kind_of b))) (length (b ∷ rest))
+cut_head w (b ∷ rest) = fault_of (place_rule w (opens (kind_of b)) (is_str (kind_of b))) (length (b ∷ rest))
 
 -- Why an array or map is no key where so many levels are left.
 abbrev pub nested_key : ℕ → Reason

@@ -7,7 +7,9 @@ use Rattle.wire_base.specs.declared.token.TokenHead.{TokenHead}
 use Rattle.wire_base.specs.declared.token.TokenHead.TheVariants as token
 use Rattle.wire_base.specs.declared.token.HeadStep.{HeadStep}
 use Rattle.wire_base.specs.declared.token.HeadStep.TheVariants as step
-use Rattle.wire_base.specs.Head.{Kind, whole_head, str, array, map, refused, kind_of, head_of}
+use Rattle.wire_base.specs.Head.{Kind, whole_head, array, map, refused, kind_of, head_of}
+use Rattle.wire_base.specs.Rules.{body_size}
+use Rattle.wire_base.specs.Tokens.{is_str}
 use Rattle.wire_base.specs.Values.{max_nesting}
 use Rattle.pack_value.specs.Spelling.{max_len}
 
@@ -33,12 +35,6 @@ opens (array w) = true
 opens (map w) = true
 opens k = false
 
--- The first byte begins a str.
-abbrev pub is_text : Kind → Bool
-is_text (whole_head (token.Str n)) = true
-is_text (str w) = true
-is_text k = false
-
 -- What an array or map, and a token that is no str, break by where they stand.
 abbrev pub place_rule : Want → Bool → Bool → Option Reason
 place_rule w nests text =
@@ -49,7 +45,7 @@ place_rule w nests text =
 -- The rule of the lowest number that a token breaks by its first byte.
 abbrev pub first_rule : Want → Kind → Option Reason
 first_rule w (refused r) = Some r
-first_rule w k = place_rule w (opens k) (is_text k)
+first_rule w k = place_rule w (opens k) (is_str k)
 
 -- The rule that a token breaks by its length.
 abbrev pub length_rule : TokenHead → Option Reason
@@ -58,12 +54,6 @@ length_rule (token.Bin n) = if nat_lt max_len n then Some TooLong else None
 length_rule (token.Array n) = if nat_lt max_len n then Some TooLong else None
 length_rule (token.Map n) = if nat_lt max_len n then Some TooLong else None
 length_rule h = None
-
--- How many bytes behind its head belong to a token.
-abbrev pub body_len : TokenHead → ℕ
-body_len (token.Str n) = n
-body_len (token.Bin n) = n
-body_len h = 0
 
 -- The rule that a token breaks by those bytes.
 abbrev pub content_rule : TokenHead → List ℕ → Option Reason
@@ -101,8 +91,8 @@ or_next None next = next
 -- A rule on the content is applied once the content is whole.
 abbrev pub next_by_content : Want → TokenHead → ℕ → List ℕ → Next
 next_by_content w h n rest =
-    if nat_lt (length rest) (body_len h) then cut
-    else or_next (content_rule h (take (body_len h) rest)) (takes (n + body_len h) (wants_of (levels w) h))
+    if nat_lt (length rest) (body_size h) then cut
+    else or_next (content_rule h (take (body_size h) rest)) (takes (n + body_size h) (wants_of (levels w) h))
 
 -- A rule on the length is applied once the head is whole.
 abbrev pub next_by_head : Want → HeadStep → List ℕ → Next

@@ -1,11 +1,11 @@
-ghost use Rattle.std.specs.Prelude.{◌≡◌, ◌≤◌, ◌^◌, ◌+◌, ◌++◌, ℕ, List, length};
+ghost use Rattle.std.specs.Prelude.{◌≡◌, ◌≤◌, ◌+◌, ◌++◌, ℕ, List, length};
 ghost use Rattle.wire_base.specs.Tree.{Tree};
 ghost use Rattle.wire_base.specs.View.{tree_of};
 ghost use Rattle.wire_base.specs.Head.{kind_of, lettered};
 ghost use Rattle.wire_base.specs.declared.reason.Reason.{Reason};
 ghost use Rattle.pack_value.specs.Spelling.{IsSpelling};
-ghost use Rattle.pack_value.specs.Tokens.{IsRefused, opens, is_text, value, key};
-ghost use Rattle.wire_base.specs.Tokens.{Gives};
+ghost use Rattle.pack_value.specs.Tokens.{IsRefused, opens, value, key};
+ghost use Rattle.wire_base.specs.Tokens.{Gives, is_str};
 ghost use Rattle.pack_value.specs.Answer.{Answers, IfGot, IfRefused, IfShort, IsAtFront, IsUndecided, step_of, front};
 ghost use Rattle.pack_value.specs.Reading.{cut_head, nested_key, run_at, text_at, key_at, items_at, pairs_at, repeat, pair_at, behind, value_at};
 
@@ -60,7 +60,7 @@ fn opens_list(first: u8) -> bool
 /// Whether a str begins with this byte.
 #[tactic(auto, unfolding(wire_base::specs::Head::lettered))]
 fn opens_text(first: u8) -> bool
-    ensures { result ≡ is_text (kind_of first) }
+    ensures { result ≡ is_str (kind_of first) }
 {
     (0xa0 <= first && first < 0xc0) || (0xd9 <= first && first < 0xdc)
 }

@@ -7,7 +7,7 @@ use Rattle.marshalled_handles.specs.Stands.{HolderStands, OwnerStands}
 use Rattle.message_body.specs.AsRead.{AreMessages}
 use Rattle.message_body.specs.Written.{encoder}
 use Rattle.rpc_items.specs.declared.messages.Message.{Message}
-use Rattle.rpc_items.specs.Bodies.{Encoder, first_refusal, or_else}
+use Rattle.rpc_items.specs.Bodies.{Encoder, first_refusal}
 use Rattle.rpc_items.specs.Items.{RpcCall, RpcItem, Did, ended, is_running}
 use Rattle.rpc_items.specs.Refusals.{call_refusal, is_of_the_past, said_refusal, state_refusal, unless_ended}
 use Rattle.rpc_items.specs.Saying.{all_said, said}
@@ -17,10 +17,12 @@ use Rattle.wire_base.specs.declared.refusal.Refusal.{Refusal}
 use Rattle.wire_base.specs.declared.state.Cause.{Cause}
 use Rattle.wire_base.specs.declared.state.EndState.{EndState}
 use Rattle.wire_base.specs.declared.state.EndState.TheVariants as state
+use Rattle.wire_base.specs.Options.{or_else}
+use Rattle.wire_base.specs.States.{state_by}
 use Rattle.rpc_end.specs.Calls.{Prepares, finished, running_refusal}
 use Rattle.rpc_end.specs.Ends.{Makes, with_said}
 use Rattle.rpc_end.specs.Replies.{Adds, Answers, CallAnswers, early_refusal}
-use Rattle.rpc_end.specs.Stands.{RpcStands, RpcValue, state_by}
+use Rattle.rpc_end.specs.Stands.{RpcStands, RpcValue}
 use Rattle.rpc_end.proofs.Said.{both_messages, waits_still}
 
 -- what an end keeps is as these items leave it

@@ -23,7 +23,6 @@ use Rattle.rpc_items.specs.declared.calls.Expect.{Expect}
 use Rattle.rpc_items.specs.declared.calls.HandleKey.{HandleKey}
 use Rattle.rpc_items.specs.declared.messages.Message.TheVariants.{Request, Notification}
 use Rattle.rpc_items.specs.Arguments.{args_refusal, most_drawn}
-use Rattle.rpc_items.specs.Bodies.{or_else}
 use Rattle.rpc_items.specs.Drawn.{arg_list, asked_by, drawn, has_progress_arg}
 use Rattle.rpc_items.specs.Ids.{numbered_id}
 use Rattle.rpc_items.specs.Items.{RpcCall, Ask, Tell, Cancel, Report, Invoke, Release, RpcItem, Did, is_running}
@@ -36,6 +35,7 @@ use Rattle.wire_base.specs.Tree.{Tree}
 use Rattle.wire_base.specs.declared.refusal.Refusal.{Refusal}
 use Rattle.wire_base.specs.declared.refusal.Refusal.TheVariants as refusal
 use Rattle.wire_base.specs.declared.text.Id.{Id}
+use Rattle.wire_base.specs.Options.{or_else}
 use Rattle.rpc_end.specs.Calls.{arguments_refusal, asking_refusal, drawing_refusal, invoking_refusal, needs_refusal, next_notification, next_number, next_request, told_refusal, with_objects, with_released, with_request}
 use Rattle.rpc_end.specs.Ends.{with_owner, with_table}
 use Rattle.rpc_end.specs.Stands.{RpcStands, RpcValue}

@@ -13,8 +13,8 @@ use Rattle.rpc_items.specs.declared.messages.Message.{Message}
 use Rattle.rpc_items.specs.declared.messages.Message.TheVariants as message
 use Rattle.rpc_items.specs.declared.messages.Params.{Params}
 use Rattle.rpc_items.specs.Fitting.{IsNamed}
-use Rattle.rpc_items.specs.Ids.{id_in, is_id_number, most_id_text}
-use Rattle.rpc_items.specs.Reading.{by_method, call_with, error_with, id_or_bad, is_version, message_in, optional_id, params_in, required_id, response_with, result_with, unless_nil}
+use Rattle.rpc_items.specs.Ids.{id_in, is_id_number, most_id_text, id_if}
+use Rattle.rpc_items.specs.Reading.{by_method, call_with, error_with, id_or_bad, is_version, message_in, optional_id, params_in, response_with, result_with, unless_nil}
 use Rattle.rpc_items.specs.Values.{member}
 use Rattle.rpc_end.specs.Heeding.{HasId}
 
@@ -57,7 +57,7 @@ error_fine (Ok id) (Some (tree.whole z)) (Some (tree.words text)) more = if_fine
 error_fine (Ok id) code text more = tt
 
 response_fine : (id result error : Option Tree) → IsFine (response_with id result error)
-response_fine id (Some value) None = result_fine (required_id id) value
+response_fine id (Some value) None = result_fine (id_if id) value
 response_fine id None (Some error) = error_fine (optional_id (unless_nil id)) _ _ _
 response_fine id result error = tt
 

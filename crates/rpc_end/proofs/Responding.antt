@@ -5,6 +5,7 @@ use Rattle.wire_base.specs.declared.fault.CallFault.{CallFault}
 use Rattle.wire_base.specs.declared.refusal.Refusal.{Refusal}
 use Rattle.wire_base.specs.declared.refusal.Refusal.TheVariants as refusal
 use Rattle.wire_base.specs.declared.text.Id.{Id}
+use Rattle.wire_base.specs.Options.{or_else}
 use Rattle.call_table.specs.Replies.{full_refusal}
 use Rattle.call_table.specs.Table.{answered, begun, waits_in}
 use Rattle.call_table.proofs.After.{answered_after, begun_after}
@@ -32,7 +33,7 @@ use Rattle.rpc_items.specs.declared.calls.Lifetime.TheVariants.{Explicit}
 use Rattle.rpc_items.specs.declared.messages.Message.{Message}
 use Rattle.rpc_items.specs.declared.messages.Message.TheVariants as message
 use Rattle.rpc_items.specs.Arguments.{most_drawn}
-use Rattle.rpc_items.specs.Bodies.{first_refusal, or_else, sequence_refusal}
+use Rattle.rpc_items.specs.Bodies.{first_refusal, sequence_refusal}
 use Rattle.rpc_items.specs.Fitting.{IsNamed}
 use Rattle.rpc_items.specs.Items.{Respond, Next, Abort, RpcItem, Did, is_running}
 use Rattle.rpc_items.specs.Objects.{object_value}
@@ -40,6 +41,7 @@ use Rattle.rpc_items.specs.Pages.{page_values}
 use Rattle.rpc_items.specs.Refusals.{answer_refusal, said_refusal, state_refusal, turn_refusal}
 use Rattle.rpc_items.specs.Saying.{abort_message, response, result_of_sequence, said, turn_message, with_token}
 use Rattle.rpc_items.specs.Writing.{message_value}
+use Rattle.rpc_items.proofs.Resting.{first_accepted}
 use Rattle.rpc_end.specs.Calls.{Responds, finished, given_refusal, next_number, page_asked, pages_left, responding_refusal, response_by, running_refusal, unwritten, with_given, with_replied}
 use Rattle.rpc_end.specs.Ends.{Makes, with_consumer, with_owner, with_producer, with_said, with_table}
 use Rattle.rpc_end.specs.Replies.{Answers}
@@ -160,10 +162,6 @@ left_early old n = following_refusal (found n old.consumer)
 abbrev pub with_left : RpcValue → (n : ℕ) → RpcValue
 with_left old n = with_consumer (without n old.consumer) old
 
-first_none : (one two : Option Refusal) → or_else one two ≡ None → one ≡ None
-first_none None two e = refl
-first_none (Some r) two e = e
-
 module _ (old : RpcValue) (n : ℕ) (items : List RpcItem) (at : ℕ) (rest : List ℕ) (s : RpcStands old items at rest) where
   next_early : asked_early old n ≡ state_refusal (Next n) items
   next_early = λ i. or_else (follows_as n old.consumer items s.consumer i) (if nat_le most_drawn (s.table.count i) then Some refusal.TooManyRequests else None)
@@ -176,7 +174,7 @@ module _ (old : RpcValue) (n : ℕ) (items : List RpcItem) (at : ℕ) (rest : Li
 
   next_keeps : asked_early old n ≡ None → KeepsFor (with_asked old n) (Did (Next n) ∷ items)
   next_keeps free =
-      let accepted : turn_refusal n items ≡ None = sym (follows_as n old.consumer items s.consumer) ∙ first_none (following_refusal (found n old.consumer)) (full_refusal old.table) free in
+      let accepted : turn_refusal n items ≡ None = sym (follows_as n old.consumer items s.consumer) ∙ first_accepted (following_refusal (found n old.consumer)) (full_refusal old.table) free in
       record {
         table = begun_after Plain false (Some n) (Next n) old.table (begun Plain false old.table) items refl s.table refl;
         producer = call_leaves_producer old.producer (Next n) items refl s.producer;

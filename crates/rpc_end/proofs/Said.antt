@@ -13,11 +13,11 @@ use Rattle.rpc_items.specs.Fitting.{IsNamed}
 use Rattle.rpc_items.specs.Ids.{same_id}
 use Rattle.rpc_items.specs.Items.{RpcCall, Respond, RpcItem, Did, Got}
 use Rattle.rpc_items.specs.Meanings.{meaning}
-use Rattle.rpc_items.specs.Sayable.{HasNamedId}
+use Rattle.rpc_items.specs.Told.{HasNamedId}
 use Rattle.rpc_items.specs.Waiting.{asks, is_waiting}
-use Rattle.rpc_items.proofs.Answering.{same_id_eq}
 use Rattle.wire_base.specs.Tree.{Tree}
 use Rattle.wire_base.specs.declared.text.Id.{Id}
+use Rattle.rpc_items.proofs.SameIds.{same_id_eq}
 use Rattle.rpc_end.specs.Heeding.{HasId, answers_by, object_answers, page_answer}
 use Rattle.rpc_end.specs.Stands.{RpcValue}
 

@@ -1,11 +1,9 @@
 -- What messages are to the sequences of an end, by what it holds, and by its items.
-use Rattle.std.specs.Prelude.{ℕ, ◌+◌, List, [], ◌∷◌, Bool, true, false, ◌&&◌, ◌||◌, max, nat_lt, if◌then◌else◌, Option, Some, None}
-use Rattle.std.proofs.Common.{◌≡◌, refl, sym, ◌∙◌, ap, arith}
+use Rattle.std.specs.Prelude.{ℕ, List, [], ◌∷◌, Bool, true, false, Option, Some, None}
+use Rattle.std.proofs.Common.{◌≡◌, refl, sym, ◌∙◌, ap}
 use Rattle.wire_base.specs.Tree.{Tree}
-use Rattle.wire_base.specs.Values.{holds_bytes, nesting}
-use Rattle.wire_base.specs.declared.refusal.Refusal.TheVariants as refusal
 use Rattle.wire_base.specs.declared.text.Id.{Id}
-use Rattle.wire_base.specs.declared.text.Id.TheVariants.{Number, Name}
+use Rattle.wire_base.specs.declared.text.Id.TheVariants.{Name}
 use Rattle.rpc_items.specs.declared.calls.Outcome.{Outcome}
 use Rattle.rpc_items.specs.declared.calls.Outcome.TheVariants.{Replied, Failed}
 use Rattle.rpc_items.specs.declared.messages.Message.{Message}
@@ -15,9 +13,9 @@ use Rattle.rpc_items.specs.declared.messages.Params.{Params}
 use Rattle.rpc_items.specs.declared.methods.Meaning.{Meaning}
 use Rattle.rpc_items.specs.declared.methods.Meaning.TheVariants.{Turns, Aborts}
 use Rattle.rpc_items.specs.Automatic.{page_by, turned}
-use Rattle.rpc_items.specs.Bodies.{Encoder, body_refusal, most_nested}
+use Rattle.rpc_items.specs.Bodies.{body_refusal}
 use Rattle.rpc_items.specs.Drawn.{Asked, asked_at}
-use Rattle.rpc_items.specs.Fitting.{Fits, IsFair, IsNamed, page_to_come}
+use Rattle.rpc_items.specs.Fitting.{IsNamed, page_to_come}
 use Rattle.rpc_items.specs.Items.{RpcItem, Got, is_running}
 use Rattle.rpc_items.specs.Meanings.{meaning}
 use Rattle.rpc_items.specs.Outcomes.{request_named}
@@ -26,7 +24,7 @@ use Rattle.rpc_items.specs.Producing.{is_abort, is_aborted, is_open, is_turn, pa
 use Rattle.rpc_items.specs.Sequences.{expects_sequence}
 use Rattle.rpc_items.specs.Writing.{message_value}
 use Rattle.rpc_items.proofs.Settling.{IsResponse, named_parts}
-use Rattle.rpc_items.proofs.Writing.{automatic_fits}
+use Rattle.rpc_items.proofs.Writing.{automatic_fits, page_ok}
 use Rattle.message_body.proofs.Lengths.{fair}
 use Rattle.message_body.specs.declared.encoding.Encoding.{Encoding}
 use Rattle.message_body.specs.Written.{encoder}
@@ -62,25 +60,8 @@ page_is id token sequences items s =
 
 -- that answer can be written
 
-none_of : (b d s : Bool) → b ≡ false → d ≡ false → s ≡ false → (if b then Some refusal.BytesInJson else if d then Some refusal.TooDeep else if s then Some refusal.BodyTooLong else None) ≡ None
-none_of true d s p q r = absurd (cc p)
-none_of false true s p q r = absurd (cc q)
-none_of false false true p q r = absurd (cc r)
-none_of false false false p q r = refl
-
-or_false : (b : Bool) → (b || false) ≡ b
-or_false true = refl
-or_false false = refl
-
-deep : (n : ℕ) → max 0 (max 0 (max n 0)) + 1 ≡ n + 1
-deep n = omega arith
-
-page_written : (k : Encoder) (id : Id) (page : Tree) → IsFair k → IsNamed id → Fits k page → body_refusal k (message_value (message.Result id page)) ≡ None
-page_written k (Number z) page f n t = none_of _ _ _ (ap (λ b. k.json && b) (or_false (holds_bytes page)) ∙ t.bytes) (ap (nat_lt most_nested) (deep (nesting page)) ∙ t.depth) (f.page (Number z) page n t.size)
-page_written k (Name s) page f n t = none_of _ _ _ (ap (λ b. k.json && b) (or_false (holds_bytes page)) ∙ t.bytes) (ap (nat_lt most_nested) (deep (nesting page)) ∙ t.depth) (f.page (Name s) page n t.size)
-
 pub page_answer_fits : (e : Encoding) (id token : Id) (sequences : List Sequence) (page : Option Tree) → page_in token sequences ≡ page → PagesFit (encoder e) sequences → IsNamed id → body_refusal (encoder e) (message_value (page_answer id page)) ≡ None
-page_answer_fits e id token sequences (Some page) is fit named = page_written (encoder e) id page (fair e) named (page_fits (encoder e) token page sequences fit is)
+page_answer_fits e id token sequences (Some page) is fit named = page_ok (encoder e) id page (fair e) named (page_fits (encoder e) token page sequences fit is)
 page_answer_fits e id token sequences None is fit named = (automatic_fits (encoder e) id (Turns (Name [])) [] (fair e) tt named).0
 
 -- the sequences that were answered, after a message

@@ -1,5 +1,5 @@
 -- What a response is to an end: the first to its request, or a stray one.
-use Rattle.std.specs.Prelude.{ℕ, List, Bool, true, false, ◌&&◌, is_none, is_some, if◌then◌else◌, Option, Some, None}
+use Rattle.std.specs.Prelude.{ℕ, List, Bool, true, false, is_none, is_some, if◌then◌else◌, Option, Some, None}
 use Rattle.std.proofs.Common.{◌≡◌, refl, sym, ◌∙◌, ap, subst}
 use Rattle.wire_base.specs.declared.text.Id.{Id}
 use Rattle.rpc_items.specs.declared.calls.Outcome.{Outcome}
@@ -8,22 +8,18 @@ use Rattle.rpc_items.specs.Ids.{numbered_id, same_id}
 use Rattle.rpc_items.specs.Items.{RpcItem, is_running}
 use Rattle.rpc_items.specs.Outcomes.{answer_to, is_unanswered, request_named}
 use Rattle.rpc_items.proofs.Settling.{named_parts}
+use Rattle.rpc_items.proofs.SameIds.{same_id_refl}
+use Rattle.rpc_items.proofs.Undrawn.{drawn_some}
 use Rattle.call_table.specs.declared.answers.Settled.{Settled}
 use Rattle.call_table.specs.declared.answers.Settled.TheVariants.{First, Stray}
 use Rattle.call_table.specs.Stands.{TableStands, asked_of, settling_by}
 use Rattle.call_table.specs.Table.{TableValue, settled_in}
-use Rattle.call_table.proofs.Answering.{same_id_refl}
-use Rattle.call_table.proofs.Reading.{drawn_some, settles_as}
+use Rattle.call_table.proofs.Reading.{settles_as, unanswered_drawn}
 
 -- a request that waits was asked
 
-is_second : (r d n : Bool) → (r && d && n) ≡ true → d ≡ true
-is_second true true n e = refl
-is_second true false n e = absurd (cc e)
-is_second false d n e = absurd (cc e)
-
 unasked : (n : ℕ) (items : List RpcItem) → asked_at n items ≡ None → is_unanswered n items ≡ true → ⊥
-unasked n items none u = cc (sym (is_second (is_running items) (is_drawn n items) (is_none (answer_to n items)) u) ∙ (drawn_some n items ∙ ap (λ (a : Option Asked). is_some a) none))
+unasked n items none u = cc (sym (unanswered_drawn (is_running items) (is_drawn n items) (is_none (answer_to n items)) u) ∙ (drawn_some n items ∙ ap (λ (a : Option Asked). is_some a) none))
 
 -- a response with the id of a request answers it
 pub answers_it : (id : Id) (n : ℕ) (o : Outcome) → id ≡ numbered_id n → (if same_id id (numbered_id n) then Some o else None) ≡ Some o

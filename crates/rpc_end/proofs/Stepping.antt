@@ -7,6 +7,7 @@ use Rattle.wire_base.specs.declared.state.Cause.{Cause}
 use Rattle.wire_base.specs.declared.state.Cause.TheVariants.{Spent}
 use Rattle.wire_base.specs.declared.state.EndState.{EndState}
 use Rattle.wire_base.specs.declared.state.EndState.TheVariants as state
+use Rattle.wire_base.specs.States.{state_by}
 use Rattle.message_body.specs.AsRead.{AreMessages}
 use Rattle.message_body.specs.Found.{body_in}
 use Rattle.message_framing.specs.declared.front.Front.{Front}
@@ -32,7 +33,7 @@ use Rattle.rpc_end.specs.Arrivals.{Arrival, Refuses, allowed_arrival, arrival, b
 use Rattle.rpc_end.specs.Ends.{with_applied, with_end}
 use Rattle.rpc_end.specs.Heeding.{HasId, Steps, body_arrives, broken_by, front_arrives, said_by, with_heeded}
 use Rattle.rpc_end.specs.Replies.{Adds, EndsBy, FeedAnswers, StepAnswers, is_spent, most_fed, refused_at}
-use Rattle.rpc_end.specs.Stands.{RpcValue, RpcStands, state_by}
+use Rattle.rpc_end.specs.Stands.{RpcValue, RpcStands}
 use Rattle.rpc_end.specs.Texts.{message_texts}
 use Rattle.rpc_end.proofs.Heeded.{broken_is, event_is, said_is}
 use Rattle.rpc_end.proofs.Kept.{holder_stands, owner_stands, table_stands}

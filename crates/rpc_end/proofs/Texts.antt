@@ -13,11 +13,11 @@ use Rattle.rpc_items.specs.declared.calls.Answer.{Answer}
 use Rattle.rpc_items.specs.declared.calls.Answer.TheVariants as answer
 use Rattle.rpc_items.specs.declared.messages.Message.{Message}
 use Rattle.rpc_items.specs.Arguments.{most_drawn}
-use Rattle.rpc_items.specs.Bodies.{body_refusal, first_refusal, or_else}
+use Rattle.rpc_items.specs.Bodies.{body_refusal, first_refusal}
 use Rattle.rpc_items.specs.Fitting.{IsNamed}
 use Rattle.rpc_items.specs.Ids.{numbered_id, whole_bound}
 use Rattle.rpc_items.specs.Pages.{page_values}
-use Rattle.rpc_items.specs.Sayable.{HasNamedId}
+use Rattle.rpc_items.specs.Told.{HasNamedId}
 use Rattle.rpc_items.specs.Saying.{abort_message, response, turn_message, with_token}
 use Rattle.rpc_items.specs.Writing.{message_value}
 use Rattle.sequence_limits.specs.Limits.{pages_refusal, values_refusal}
@@ -27,6 +27,7 @@ use Rattle.wire_base.specs.declared.fault.CallFault.{CallFault}
 use Rattle.wire_base.specs.declared.fault.CallFault.TheVariants as fault
 use Rattle.wire_base.specs.declared.refusal.Refusal.{Refusal}
 use Rattle.wire_base.specs.declared.text.Id.{Id}
+use Rattle.wire_base.specs.Options.{or_else}
 use Rattle.rpc_end.specs.declared.terms.Terms.{Terms}
 use Rattle.rpc_end.specs.Calls.{Prepares, page_asked, pages_left, response_by, unwritten}
 use Rattle.rpc_end.specs.Stands.{RpcValue}

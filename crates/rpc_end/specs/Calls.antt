@@ -13,7 +13,7 @@ use Rattle.marshalled_handles.specs.Owner.{offered, room_refusal}
 use Rattle.marshalled_handles.specs.Replies.{seen_refusal}
 use Rattle.message_body.specs.Written.{encoder}
 use Rattle.rpc_items.specs.Arguments.{has_reserved, needs_request}
-use Rattle.rpc_items.specs.Bodies.{first_refusal, or_else, sequence_refusal}
+use Rattle.rpc_items.specs.Bodies.{first_refusal, sequence_refusal}
 use Rattle.rpc_items.specs.Drawn.{arg_list, has_progress_arg}
 use Rattle.rpc_items.specs.Ids.{numbered_id}
 use Rattle.rpc_items.specs.Objects.{object_value}
@@ -37,6 +37,7 @@ use Rattle.wire_base.specs.declared.refusal.Refusal.TheVariants as refusal
 use Rattle.wire_base.specs.declared.state.EndState.{EndState}
 use Rattle.wire_base.specs.declared.state.EndState.TheVariants as state
 use Rattle.wire_base.specs.declared.text.Id.{Id}
+use Rattle.wire_base.specs.Options.{or_else}
 use Rattle.rpc_end.specs.Ends.{Makes, with_holder, with_owner, with_producer, with_said, with_stop, with_table}
 use Rattle.rpc_end.specs.Stands.{RpcValue}
 

@@ -7,6 +7,7 @@ use Rattle.rpc_items.specs.Refusals.{call_refusal, is_of_the_past, state_refusal
 use Rattle.rpc_items.specs.Saying.{said}
 use Rattle.wire_base.specs.declared.fault.CallFault.{CallFault}
 use Rattle.wire_base.specs.declared.fault.CallFault.TheVariants as fault
+use Rattle.wire_base.specs.declared.limits.TheConstants.{MAX_FED}
 use Rattle.wire_base.specs.declared.out_of_memory.OutOfMemory.{OutOfMemory}
 use Rattle.wire_base.specs.declared.reason.Reason.{Reason}
 use Rattle.wire_base.specs.declared.refusal.Refusal.{Refusal}
@@ -92,7 +93,7 @@ FeedAnswers old new items at rest piece ended spent (Err e) = ⊥
 
 -- the most bytes that are fed to an end
 abbrev pub most_fed : ℕ
-most_fed = 0x4000000000000000
+most_fed = MAX_FED
 
 abbrev pub is_spent : ℕ → List ℕ → List ℕ → Bool
 is_spent at rest piece = nat_lt most_fed (at + length rest + length piece)

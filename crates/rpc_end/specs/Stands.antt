@@ -1,5 +1,5 @@
 -- When an end stands for a list of items.
-use Rattle.std.specs.Prelude.{◌≡◌, ℕ, List, true, false, Option, Some, None}
+use Rattle.std.specs.Prelude.{◌≡◌, ℕ, List, true, false}
 use Rattle.call_table.specs.Stands.{TableStands}
 use Rattle.call_table.specs.Table.{TableValue}
 use Rattle.enumerables.specs.declared.followed.Followed.{Followed}
@@ -15,9 +15,8 @@ use Rattle.rpc_items.specs.Fitting.{IsNamed}
 use Rattle.rpc_items.specs.Items.{RpcItem, ended}
 use Rattle.rpc_items.specs.Saying.{all_said}
 use Rattle.rpc_items.specs.Waiting.{is_waiting}
-use Rattle.wire_base.specs.declared.state.Cause.{Cause}
+use Rattle.wire_base.specs.States.{state_by}
 use Rattle.wire_base.specs.declared.state.EndState.{EndState}
-use Rattle.wire_base.specs.declared.state.EndState.TheVariants as state
 use Rattle.wire_base.specs.declared.text.Id.{Id}
 use Rattle.rpc_end.specs.declared.terms.Terms.{Terms}
 
@@ -35,10 +34,6 @@ pub record RpcValue : Type 0 where
   pub at : ℕ
   pub rest : List ℕ
   pub state : EndState
-
-abbrev pub state_by : Option Cause → EndState
-state_by None = state.Running
-state_by (Some cause) = state.Ended cause
 
 abbrev pub state_of : List RpcItem → EndState
 state_of items = state_by (ended items)

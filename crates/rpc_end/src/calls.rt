@@ -13,7 +13,7 @@ ghost use Rattle.rpc_end.specs.Calls.{Calls, Responds, Tests, asking_refusal, fi
 ghost use Rattle.rpc_end.specs.Ends.{Makes, with_consumer, with_output, with_producer, with_said, with_table};
 ghost use Rattle.rpc_end.specs.Replies.{Answers, RefusesStopped};
 ghost use Rattle.rpc_end.specs.Stands.{RpcStands};
-ghost use Rattle.rpc_items.specs.Bodies.{first_refusal, or_else};
+ghost use Rattle.rpc_items.specs.Bodies.{first_refusal};
 ghost use Rattle.rpc_items.specs.Drawn.{drawn};
 ghost use Rattle.rpc_items.specs.Fitting.{IsNamed};
 ghost use Rattle.rpc_items.specs.Items.{Abort, Ask, Cancel, Did, Forget, Invoke, Next, Release, Report, Respond, RpcItem, TakeReport, Tell};
@@ -25,6 +25,7 @@ ghost use Rattle.rpc_items.specs.declared.calls.Answer.TheVariants as answers;
 ghost use Rattle.rpc_items.specs.declared.calls.Expect.TheVariants.{Plain};
 ghost use Rattle.sequence_limits.specs.Limits.{pages_refusal, values_refusal};
 ghost use Rattle.std.specs.Prelude.{◌≡◌, ◌==◌, ◌+◌, ◌∷◌, ◌++◌, [], List, None, OnOk, drop, false, length, slice_get, true, ℕ};
+ghost use Rattle.wire_base.specs.Options.{or_else};
 
 use crate::end::RpcEnd;
 use call_messages::{has_progress, in_order};

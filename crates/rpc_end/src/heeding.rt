@@ -13,7 +13,7 @@ ghost use Rattle.rpc_items.specs.Bodies.{body_refusal};
 ghost use Rattle.rpc_items.specs.Fitting.{IsNamed};
 ghost use Rattle.rpc_items.specs.Meanings.{meaning};
 ghost use Rattle.rpc_items.specs.Objects.{whole_arguments};
-ghost use Rattle.rpc_items.specs.Sayable.{HasNamedId};
+ghost use Rattle.rpc_items.specs.Told.{HasNamedId};
 ghost use Rattle.rpc_items.specs.Writing.{message_value};
 ghost use Rattle.rpc_items.specs.declared.calls.Outcome.TheVariants as outcomes;
 ghost use Rattle.rpc_items.specs.declared.calls.RpcEvent.TheVariants as events;

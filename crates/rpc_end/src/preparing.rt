@@ -11,7 +11,7 @@ ghost use Rattle.message_body.specs.Replies.{Writes};
 ghost use Rattle.message_body.specs.Written.{encoder};
 ghost use Rattle.rpc_end.specs.Calls.{Prepares, Tests, arguments_refusal, asking_refusal, drawing_refusal, invoking_refusal, member_refusal, needs_refusal, next_notification, next_number, next_request, page_asked, pages_left, responding_refusal, response_by, told_refusal, unwritten};
 ghost use Rattle.rpc_end.specs.Texts.{message_texts};
-ghost use Rattle.rpc_items.specs.Bodies.{body_refusal, first_refusal, or_else};
+ghost use Rattle.rpc_items.specs.Bodies.{body_refusal, first_refusal};
 ghost use Rattle.rpc_items.specs.Arguments.{most_drawn};
 ghost use Rattle.rpc_items.specs.Drawn.{arg_list};
 ghost use Rattle.rpc_items.specs.Fitting.{IsNamed};
@@ -25,6 +25,7 @@ ghost use Rattle.rpc_items.specs.Pages.{page_values};
 ghost use Rattle.rpc_items.specs.declared.calls.Answer.TheVariants as answers;
 ghost use Rattle.sequence_limits.specs.Limits.{pages_refusal, values_refusal};
 ghost use Rattle.std.specs.Prelude.{◌≡◌, ◌==◌, ◌≤◌, ◌<◌, ◌+◌, ◌∷◌, [], IfOk, None, OnOk, Some, drop, false, if◌then◌else◌, length, nat_lt, true};
+ghost use Rattle.wire_base.specs.Options.{or_else};
 
 use crate::end::RpcEnd;
 use call_messages::{
@@ -33,13 +34,10 @@ use call_messages::{
 };
 use enumerables::sequence_value;
 use marshalled_handles::check_handle;
-use rpc_items::{Answer, Arguments, HandleKey, Message};
+use rpc_items::{Answer, Arguments, HandleKey, MOST_DRAWN, Message};
 use rpc_methods::{is_reserved, is_reserved_value};
 use sequence_limits::{check_pages, check_values as check_sequence};
 use wire_base::{CallFault, Datum, DatumList, Id, OutOfMemory, Refusal, Text};
-
-/// The most requests that are drawn.
-const MOST_REQUESTS: u64 = 4_294_967_295;
 
 /// Refuses methods that callers may not use.
 fn check_method(method: &Text) -> Result<(), CallFault>
@@ -105,7 +103,7 @@ impl RpcEnd {
         ensures bound { IfOk result (λ n. n ≤ most_drawn) }
     {
         let drawn = self.table.drawn();
-        if MOST_REQUESTS <= drawn {
+        if MOST_DRAWN <= drawn {
             return Err(CallFault::Refused(Refusal::TooManyRequests));
         }
         Ok(drawn + 1)

@@ -6,7 +6,7 @@ ghost use Rattle.message_body.specs.Written.{encoder};
 ghost use Rattle.rpc_end.specs.Ends.{with_output};
 ghost use Rattle.rpc_end.specs.Texts.{message_text};
 ghost use Rattle.rpc_items.specs.Bodies.{body_refusal};
-ghost use Rattle.rpc_items.specs.Sayable.{HasNamedId};
+ghost use Rattle.rpc_items.specs.Told.{HasNamedId};
 ghost use Rattle.rpc_items.specs.Writing.{message_value};
 ghost use Rattle.std.specs.Prelude.{◌≡◌, ◌++◌, IfOk, OnErr, OnOk};
 

@@ -1,14 +1,12 @@
 -- A request is answered once at most.
 use Rattle.std.specs.Prelude.{if◌then◌else◌, Bool, true, false, codes}
 use Rattle.std.proofs.Common.{◌≡◌, ℕ, ◌+◌, ◌≤◌, List, [], ◌∷◌, ◌++◌, refl, sym, ◌∙◌, ap, arith, Option, Some, None}
-use Rattle.std.proofs.lemmas.Bool.Decides.{Decides-int_eq}
-use Rattle.std.proofs.lemmas.Slice.Eq.{bytes_eq-Decides}
 use Rattle.wire_base.specs.declared.state.Cause.{Cause}
 use Rattle.wire_base.specs.declared.reason.Reason.TheVariants as reason
 use Rattle.wire_base.specs.declared.refusal.Refusal.{Refusal}
 use Rattle.wire_base.specs.declared.refusal.Refusal.TheVariants as refusal
 use Rattle.wire_base.specs.declared.text.Id.{Id}
-use Rattle.wire_base.specs.declared.text.Id.TheVariants.{Number, Name}
+use Rattle.wire_base.specs.Options.{or_else}
 use Rattle.rpc_items.specs.declared.calls.Answer.{Answer}
 use Rattle.rpc_items.specs.declared.calls.Answer.TheVariants as answer
 use Rattle.rpc_items.specs.declared.messages.Params.{Params}
@@ -27,18 +25,11 @@ use Rattle.rpc_items.specs.Producing.{page_count, sequence_named}
 use Rattle.rpc_items.specs.Sequences.{sequence_of}
 use Rattle.rpc_items.specs.Automatic.{fault, nothing_there, bad_arguments, no_method, done, page_message, page_by, turned, automatic}
 use Rattle.rpc_items.specs.Saying.{said, response, with_token, all_said, all_got}
-use Rattle.rpc_items.specs.Bodies.{Encoder, or_else}
+use Rattle.rpc_items.specs.Bodies.{Encoder}
 use Rattle.rpc_items.specs.Refusals.{unless_ended}
 use Rattle.rpc_items.specs.Allowed.{AreAllowed}
 use Rattle.rpc_items.specs.Answered.{responses, requests, AnswersOnce}
-
--- ids that are the same
-
-pub same_id_eq : (a b : Id) → same_id a b ≡ true → a ≡ b
-same_id_eq (Number a) (Number b) e = ap Number ((Decides-int_eq a b).0 e)
-same_id_eq (Name a) (Name b) e = ap Name ((bytes_eq-Decides a b).0 e)
-same_id_eq (Number a) (Name b) e = absurd (cc e)
-same_id_eq (Name a) (Number b) e = absurd (cc e)
+use Rattle.rpc_items.proofs.SameIds.{same_id_eq}
 
 -- one message, whether it is a response or a request with this id
 

@@ -23,17 +23,15 @@ use Rattle.rpc_items.specs.Saying.{said, response, with_token, turn_message, abo
 use Rattle.rpc_items.specs.Bodies.{Encoder}
 use Rattle.rpc_items.specs.Refusals.{has_sequence, turn_refusal}
 use Rattle.rpc_items.specs.Answered.{requests, SaysOne, IsDrawnOnce}
-use Rattle.rpc_items.proofs.Answering.{same_id_eq, requests-append}
+use Rattle.rpc_items.proofs.Answering.{requests-append}
 use Rattle.rpc_items.proofs.Resting.{accepted, first_accepted}
 use Rattle.rpc_items.proofs.Stable.{drawn_more}
+use Rattle.rpc_items.proofs.SameIds.{same_id_eq, number_eq}
 
 -- what an item says of this number: nothing, or one request with the number that it draws
 abbrev pub Draws : ℕ → RpcItem → List RpcItem → Type 0
 Draws n item items = (requests (numbered_id n) (said item items) ≡ 0)
     ⊎ ((requests (numbered_id n) (said item items) ≤ 1) × (drawn items + 1 ≡ n) × (drawn (item ∷ items) ≡ drawn items + 1))
-
-number_eq : (a b : ℕ) → numbered_id a ≡ numbered_id b → a ≡ b
-number_eq a b e = cc e
 
 one_drawn : (n k : ℕ) (b : Bool) → same_id (numbered_id k) (numbered_id n) ≡ b → ((if b then 0 + 1 else 0) ≡ 0) ⊎ (((if b then 0 + 1 else 0) ≤ 1) × (k ≡ n))
 one_drawn n k true e = inr (omega arith, number_eq k n (same_id_eq (numbered_id k) (numbered_id n) e))
@@ -115,7 +113,7 @@ has_token : (token : Option Id) (say : Id → Message) → has_sequence token �
 has_token (Some token) say e = refl
 has_token None say e = absurd (cc e)
 
-turn_accepted : (has turning : Bool) → (if not has then Some refusal.NoEnumerable else if turning then Some refusal.NextOutstanding else None) ≡ None → has ≡ true
+pub turn_accepted : (has turning : Bool) → (if not has then Some refusal.NoEnumerable else if turning then Some refusal.NextOutstanding else None) ≡ None → has ≡ true
 turn_accepted true turning e = refl
 turn_accepted false turning e = absurd (cc e)
 

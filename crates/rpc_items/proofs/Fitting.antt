@@ -3,7 +3,6 @@ use Rattle.std.specs.Prelude.{if◌then◌else◌, not, ◌&&◌, ◌||◌, Bool
 use Rattle.std.specs.List.{list_any}
 use Rattle.std.proofs.Common.{inl, inr, ◌≡◌, ℕ, ◌+◌, ◌-◌, ◌*◌, ◌<◌, ◌≤◌, List, [], ◌∷◌, ◌++◌, length, take, drop, refl, sym, ◌∙◌, ap, ap₂, arith, Option, Some, None, le-leb, subst}
 use Rattle.std.proofs.lemmas.Bool.{cases_Bool, lt-leb, ltb-true, ltb-false}
-use Rattle.std.proofs.lemmas.Bool.Decides.{nat_tests}
 use Rattle.std.proofs.lemmas.List.{drop-drop, length-drop}
 use Rattle.wire_base.specs.declared.state.Cause.{Cause}
 use Rattle.wire_base.specs.declared.refusal.Refusal.{Refusal}
@@ -11,6 +10,8 @@ use Rattle.wire_base.specs.declared.refusal.Refusal.TheVariants as refusal
 use Rattle.wire_base.specs.Tree.{Tree, trees_of}
 use Rattle.rpc_items.specs.declared.calls.Answer.TheVariants as answer
 use Rattle.wire_base.specs.Values.{nesting, holds_bytes, items_hold_bytes}
+use Rattle.wire_base.specs.Options.{or_else}
+use Rattle.wire_base.proofs.Places.{above_zero}
 use Rattle.rpc_items.specs.Writing.{message_value}
 use Rattle.rpc_items.specs.Items.{RpcItem, Did, Respond, ended, is_running}
 use Rattle.rpc_items.specs.Produced.{Produced, produced, produced_by, produced_at, last_token}
@@ -18,7 +19,7 @@ use Rattle.rpc_items.specs.Waiting.{is_waiting}
 use Rattle.rpc_items.specs.Pages.{page_value, page_values, page_after, are_left}
 use Rattle.rpc_items.specs.Producing.{is_aborted, is_open, page_count, is_producing}
 use Rattle.rpc_items.specs.Saying.{said, response}
-use Rattle.rpc_items.specs.Bodies.{Encoder, most_nested, most_page, most_body, or_else, sequence_refusal}
+use Rattle.rpc_items.specs.Bodies.{Encoder, most_nested, most_page, most_body, sequence_refusal}
 use Rattle.rpc_items.specs.Arguments.{most_drawn}
 use Rattle.rpc_items.specs.Refusals.{unless_ended}
 use Rattle.rpc_items.specs.Allowed.{IsAllowed, AreAllowed}
@@ -172,9 +173,6 @@ finished_same first page pages values =
 same_page : (s : Produced) (pages : ℕ) → page_at s.page pages (drop s.first s.values) ≡ page_to_come (Some s) pages
 same_page s pages = ap₂ (λ finished vs. page_value finished (take s.page vs)) (finished_same s.first s.page pages s.values) (drop-drop (pages * s.page) s.first s.values)
 
-positive : (n : ℕ) → (n == 0) ≡ false → 0 < n
-positive n e = grind (arith, nat_tests, e)
-
 pub page_fits : (k : Encoder) (s : Produced) (pages : ℕ) → IsWritable k s → are_left s pages ≡ true → Fits k (page_to_come (Some s) pages)
 page_fits k s pages w left =
     let all = passed k s w in
@@ -186,8 +184,8 @@ page_fits k s pages w left =
       bytes = and_false k.json (holds_bytes (page_to_come (Some s) pages)) (items_hold_bytes (trees_of s.values))
           (λ b. drop_bytes (s.first + pages * s.page) s.values (take_bytes s.page (drop (s.first + pages * s.page) s.values) (page_bytes (not (are_left s (pages + 1))) (page_after s pages) b)))
           all.bytes;
-      depth = ap (λ page. nat_lt most_nested (nesting page + 1)) (sym (same_page s pages)) ∙ passes (λ page. nat_lt most_nested (nesting page + 1)) s.page pages (length s.values) (drop s.first s.values) (positive s.page w.page) within most all.depth;
-      size = ap (λ page. nat_lt most_page (k.size page)) (sym (same_page s pages)) ∙ passes (λ page. nat_lt most_page (k.size page)) s.page pages (length s.values) (drop s.first s.values) (positive s.page w.page) within most all.size;
+      depth = ap (λ page. nat_lt most_nested (nesting page + 1)) (sym (same_page s pages)) ∙ passes (λ page. nat_lt most_nested (nesting page + 1)) s.page pages (length s.values) (drop s.first s.values) (above_zero s.page w.page) within most all.depth;
+      size = ap (λ page. nat_lt most_page (k.size page)) (sym (same_page s pages)) ∙ passes (λ page. nat_lt most_page (k.size page)) s.page pages (length s.values) (drop s.first s.values) (above_zero s.page w.page) within most all.size;
     }
 
 open_left : (left running aborted : Bool) → (left && running && not aborted) ≡ true → left ≡ true

@@ -1,3 +1,5 @@
+pub mod Numbered
+pub mod SameIds
 pub mod Stable
 pub mod Resting
 pub mod Answering
@@ -6,6 +8,7 @@ pub mod Drawing
 pub mod Fitting
 pub mod Settling
 pub mod Reported
+pub mod Undrawn
 mod Worked
 mod WorkedExtensions
 mod WorkedMessages

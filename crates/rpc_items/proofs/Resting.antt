@@ -7,6 +7,7 @@ use Rattle.wire_base.specs.declared.state.Cause.{Cause}
 use Rattle.wire_base.specs.declared.refusal.Refusal.{Refusal}
 use Rattle.wire_base.specs.declared.refusal.Refusal.TheVariants as refusal
 use Rattle.wire_base.specs.declared.text.Id.{Id}
+use Rattle.wire_base.specs.Options.{or_else}
 use Rattle.rpc_items.specs.declared.calls.HandleKey.{HandleKey}
 use Rattle.rpc_items.specs.declared.calls.RpcEvent.{RpcEvent}
 use Rattle.rpc_items.specs.declared.calls.RpcEvent.TheVariants as event
@@ -27,7 +28,7 @@ use Rattle.rpc_items.specs.Waiting.{is_waiting}
 use Rattle.rpc_items.specs.PeerHandles.{Adopted, adopted, peer_ended, ends_adopted}
 use Rattle.rpc_items.specs.Handles.{is_made, has_ended, is_live}
 use Rattle.rpc_items.specs.Events.{object_target, reported_event, answered_event, handled_event, request_event, notification_event, event_of}
-use Rattle.rpc_items.specs.Bodies.{Encoder, or_else}
+use Rattle.rpc_items.specs.Bodies.{Encoder}
 use Rattle.rpc_items.specs.Refusals.{unless_ended, handle_refusal}
 use Rattle.rpc_items.specs.Allowed.{IsAllowed, AreAllowed}
 use Rattle.rpc_items.specs.Resting.{event_releases, is_released_by, is_target, event_calls, is_invoked_by, RestsAfterEnd, releases_of}

@@ -3,6 +3,7 @@ use Rattle.std.specs.Prelude.{if◌then◌else◌, ◌&&◌, ◌⊎◌, Bool, tr
 use Rattle.std.proofs.Common.{◌≡◌, ◌≢◌, ℕ, List, ◌∷◌, refl, sym, ◌∙◌, ap, inl, inr, Option, Some, None}
 use Rattle.wire_base.specs.declared.text.Id.{Id}
 use Rattle.wire_base.specs.declared.text.Id.TheVariants.{Number, Name}
+use Rattle.wire_base.specs.Options.{or_else}
 use Rattle.rpc_items.specs.declared.calls.Outcome.{Outcome}
 use Rattle.rpc_items.specs.declared.calls.Outcome.TheVariants.{Replied, Failed}
 use Rattle.rpc_items.specs.declared.calls.RpcEvent.{RpcEvent}
@@ -17,29 +18,29 @@ use Rattle.rpc_items.specs.declared.methods.Meaning.TheVariants.{Serves, Cancels
 use Rattle.rpc_items.specs.Meanings.{meaning}
 use Rattle.rpc_items.specs.Items.{RpcItem, Got, is_running}
 use Rattle.rpc_items.specs.Drawn.{is_drawn}
-use Rattle.rpc_items.specs.Outcomes.{response_in, first_of, answer_to, is_unanswered, request_named}
+use Rattle.rpc_items.specs.Outcomes.{response_in, answer_to, is_unanswered, request_named}
 use Rattle.rpc_items.specs.Reports.{has_progress}
 use Rattle.rpc_items.specs.OwnHandles.{own_live, own_made}
 use Rattle.rpc_items.specs.Waiting.{is_waiting}
 use Rattle.rpc_items.specs.Handles.{is_live}
 use Rattle.rpc_items.specs.Events.{object_target, reported_event, answered_event, handled_event, request_event, notification_event, event_of}
 use Rattle.rpc_items.specs.Stable.{Settles}
-use Rattle.rpc_items.proofs.Answering.{same_id_eq}
+use Rattle.rpc_items.proofs.SameIds.{same_id_eq}
 
 -- a message that is no response to m changes nothing for m
 
-pub same : (c : Bool) (a : Option Outcome) → (if c then first_of a None else a) ≡ a
+pub same : (c : Bool) (a : Option Outcome) → (if c then or_else a None else a) ≡ a
 same true (Some o) = refl
 same true None = refl
 same false a = refl
 
 pub other : (m place : ℕ) (message : Message) (items : List RpcItem) → response_in m message ≡ None → answer_to m (Got place message ∷ items) ≡ answer_to m items
 other m place message items e =
-    ap (λ r. if is_running items && is_drawn m items then first_of (answer_to m items) r else answer_to m items) e ∙ same (is_running items && is_drawn m items) (answer_to m items)
+    ap (λ r. if is_running items && is_drawn m items then or_else (answer_to m items) r else answer_to m items) e ∙ same (is_running items && is_drawn m items) (answer_to m items)
 
 -- nor does a response to a request that isn't unanswered
 
-pub late : (r d : Bool) (a : Option Outcome) (o : Option Outcome) → (r && d && is_none a) ≡ false → (if r && d then first_of a o else a) ≡ a
+pub late : (r d : Bool) (a : Option Outcome) (o : Option Outcome) → (r && d && is_none a) ≡ false → (if r && d then or_else a o else a) ≡ a
 late true true (Some x) o e = refl
 late true true None o e = absurd (cc e)
 late true false a o e = refl
@@ -50,7 +51,7 @@ too_late m place message items e = late (is_running items) (is_drawn m items) (a
 
 -- the first one is the answer
 
-pub first : (r d : Bool) (a : Option Outcome) (o : Option Outcome) → (r && d && is_none a) ≡ true → (a ≡ None) × ((if r && d then first_of a o else a) ≡ o)
+pub first : (r d : Bool) (a : Option Outcome) (o : Option Outcome) → (r && d && is_none a) ≡ true → (a ≡ None) × ((if r && d then or_else a o else a) ≡ o)
 first true true None o e = (refl, refl)
 first true true (Some x) o e = absurd (cc e)
 first true false a o e = absurd (cc e)

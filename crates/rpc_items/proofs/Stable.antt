@@ -1,15 +1,15 @@
 -- Outcomes stay.
-use Rattle.std.specs.Prelude.{if◌then◌else◌, not, ◌&&◌, nat_lt, nat_le, Bool, true, false, ◌⊎◌, ◌==◌}
+use Rattle.std.specs.Prelude.{if◌then◌else◌, not, ◌&&◌, nat_lt, nat_le, Bool, true, false, ◌⊎◌}
 use Rattle.std.proofs.Common.{◌≡◌, ℕ, ◌≤◌, List, [], ◌∷◌, ◌++◌, refl, ◌∙◌, ap, inl, inr, arith, Option, Some, None, leb-true, le-leb, length-append, subst}
 use Rattle.std.proofs.lemmas.Bool.{cases_Bool, and_parts, and_from}
+use Rattle.wire_base.specs.Options.{or_else}
 use Rattle.rpc_items.specs.declared.calls.Outcome.{Outcome}
 use Rattle.rpc_items.specs.declared.calls.Outcome.TheVariants.{Replied, Failed, Lost, Starved}
-use Rattle.rpc_items.specs.declared.messages.Message.TheVariants.{Request, Notification}
 use Rattle.rpc_items.specs.declared.messages.Message.TheVariants as message
 use Rattle.rpc_items.specs.Ids.{same_id, numbered_id}
-use Rattle.rpc_items.specs.Items.{RpcItem, Did, Got, End, Forget, is_running}
+use Rattle.rpc_items.specs.Items.{RpcItem, Did, Got, End, is_running}
 use Rattle.rpc_items.specs.Drawn.{asked, asked_by, drawn, is_drawn, is_forgotten}
-use Rattle.rpc_items.specs.Outcomes.{Known, NoRequest, response_to, first_of, answer_to, look_at, outcome}
+use Rattle.rpc_items.specs.Outcomes.{Known, NoRequest, response_to, answer_to, look_at, outcome}
 use Rattle.rpc_items.specs.Stable.{IsStable, IsFirst, IsReal, starved}
 
 -- one more item
@@ -22,23 +22,19 @@ is_drawn_more n item items e =
     let both = and_parts (nat_lt 0 n) (nat_le n (drawn items)) e in
     and_from (nat_lt 0 n) (nat_le n (drawn (item ∷ items))) both.0 (le-leb n (drawn (item ∷ items)) (let le = leb-true n (drawn items) both.1 in omega (arith, drawn_more item items)))
 
-pub forgotten_more : (n : ℕ) (item : RpcItem) (items : List RpcItem) → is_forgotten n items ≡ true → is_forgotten n (item ∷ items) ≡ true
-forgotten_more n (Did (Forget m)) items e = elim (m == n) as (λ b. (if b then true else is_forgotten n items) ≡ true) [ true ↦ refl | false ↦ e ]
-forgotten_more n item items e = e
-
 pub ended_more : (item : RpcItem) (items : List RpcItem) → is_running items ≡ false → is_running (item ∷ items) ≡ false
 ended_more (Did call) items e = e
 ended_more (Got place message) items e = e
 ended_more (End cause) items e = refl
 
 pub answer_more : (n : ℕ) (o : Outcome) (item : RpcItem) (items : List RpcItem) → answer_to n items ≡ Some o → answer_to n (item ∷ items) ≡ Some o
-answer_more n o item items e = elim (is_running items && is_drawn n items) as (λ b. (if b then first_of (answer_to n items) (response_to n item) else answer_to n items) ≡ Some o) [
-  | true ↦ ap (λ a. first_of a (response_to n item)) e
+answer_more n o item items e = elim (is_running items && is_drawn n items) as (λ b. (if b then or_else (answer_to n items) (response_to n item) else answer_to n items) ≡ Some o) [
+  | true ↦ ap (λ a. or_else a (response_to n item)) e
   | false ↦ e
 ]
 
 pub no_answer_more : (n : ℕ) (item : RpcItem) (items : List RpcItem) → is_running items ≡ false → answer_to n (item ∷ items) ≡ answer_to n items
-no_answer_more n item items e = ap (λ b. if b && is_drawn n items then first_of (answer_to n items) (response_to n item) else answer_to n items) e
+no_answer_more n item items e = ap (λ b. if b && is_drawn n items then or_else (answer_to n items) (response_to n item) else answer_to n items) e
 
 -- a known answer, or an end without one, among newer items
 
@@ -131,13 +127,13 @@ pub answer_first : (n : ℕ) (o : Outcome) (items : List RpcItem) → answer_to 
 answer_first n o [] e = cc
 answer_first n o (item ∷ items) e = by (is_running items && is_drawn n items) refl (λ a. answer_first n o items a) e
   where
-    of : (answer : Option Outcome) → answer_to n items ≡ answer → (is_running items && is_drawn n items) ≡ true → (answer_to n items ≡ Some o → IsFirst n o items) → first_of answer (response_to n item) ≡ Some o → IsFirst n o (item ∷ items)
+    of : (answer : Option Outcome) → answer_to n items ≡ answer → (is_running items && is_drawn n items) ≡ true → (answer_to n items ≡ Some o → IsFirst n o items) → or_else answer (response_to n item) ≡ Some o → IsFirst n o (item ∷ items)
     of (Some older) a both ih g = first_newer n o item items (ih (a ∙ g))
     of None a both ih g =
         let parts = and_parts (is_running items) (is_drawn n items) both in
         record { newer = []; item = item; older = items; are = refl; says = g; drawn = parts.1; runs = parts.0; none = a }
 
-    by : (b : Bool) → (is_running items && is_drawn n items) ≡ b → (answer_to n items ≡ Some o → IsFirst n o items) → (if b then first_of (answer_to n items) (response_to n item) else answer_to n items) ≡ Some o → IsFirst n o (item ∷ items)
+    by : (b : Bool) → (is_running items && is_drawn n items) ≡ b → (answer_to n items ≡ Some o → IsFirst n o items) → (if b then or_else (answer_to n items) (response_to n item) else answer_to n items) ≡ Some o → IsFirst n o (item ∷ items)
     by true both ih g = of (answer_to n items) refl both ih g
     by false both ih g = first_newer n o item items (ih g)
 

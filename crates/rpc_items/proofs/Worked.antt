@@ -2,7 +2,6 @@
 use Rattle.std.specs.Prelude.{ℕ, List, [], ◌∷◌, true, false, codes, Some, None, pos, negsuc}
 use Rattle.std.proofs.Common.{◌≡◌, refl}
 use Rattle.wire_base.specs.Tree as tree
-use Rattle.wire_base.specs.Tree.{Tree}
 use Rattle.wire_base.specs.declared.reason.Reason.TheVariants as reason
 use Rattle.wire_base.specs.declared.state.Cause.TheVariants.{InputEnded, PeerCompleted}
 use Rattle.wire_base.specs.declared.text.Id.{Id}

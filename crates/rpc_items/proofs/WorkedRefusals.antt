@@ -2,7 +2,7 @@
 use Rattle.std.specs.Prelude.{ℕ, suc, zero, List, [], ◌∷◌, true, false, codes, Some, None, pos}
 use Rattle.std.proofs.Common.{◌≡◌, refl}
 use Rattle.wire_base.specs.Tree as tree
-use Rattle.wire_base.specs.Tree.{Tree, trees_of, pairs_of}
+use Rattle.wire_base.specs.Tree.{Tree, pairs_of}
 use Rattle.wire_base.specs.declared.refusal.Refusal.TheVariants as refusal
 use Rattle.wire_base.specs.declared.state.Cause.TheVariants.{InputEnded, PeerCompleted}
 use Rattle.wire_base.specs.declared.text.Id.{Id}

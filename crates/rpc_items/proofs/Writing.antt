@@ -46,7 +46,7 @@ or_false false = refl
 deep : (n : ℕ) → max 0 (max 0 (max n 0)) + 1 ≡ n + 1
 deep n = omega arith
 
-page_ok : (k : Encoder) (id : Id) (page : Tree) → IsFair k → IsNamed id → Fits k page → body_refusal k (message_value (message.Result id page)) ≡ None
+pub page_ok : (k : Encoder) (id : Id) (page : Tree) → IsFair k → IsNamed id → Fits k page → body_refusal k (message_value (message.Result id page)) ≡ None
 page_ok k (Number z) page f n t = none_of _ _ _ (ap (λ b. k.json && b) (or_false (holds_bytes page)) ∙ t.bytes) (ap (nat_lt most_nested) (deep (nesting page)) ∙ t.depth) (f.page (Number z) page n t.size)
 page_ok k (Name s) page f n t = none_of _ _ _ (ap (λ b. k.json && b) (or_false (holds_bytes page)) ∙ t.bytes) (ap (nat_lt most_nested) (deep (nesting page)) ∙ t.depth) (f.page (Name s) page n t.size)
 

@@ -8,6 +8,7 @@ use Rattle.rpc_items.specs.declared.calls.Arguments.{Arguments}
 use Rattle.rpc_items.specs.declared.calls.Lifetime.TheVariants.{Call}
 use Rattle.rpc_items.specs.declared.calls.Arg.TheVariants as arg
 use Rattle.rpc_items.specs.declared.calls.Arguments.TheVariants as arguments
+use Rattle.rpc_items.specs.declared.limits.TheConstants.{MOST_DRAWN}
 use Rattle.rpc_items.specs.Keys.{peer_key}
 use Rattle.rpc_items.specs.Objects.{is_reserved_value}
 use Rattle.rpc_items.specs.Items.{RpcItem}
@@ -17,7 +18,7 @@ use Rattle.rpc_items.specs.Handles.{is_made, has_ended}
 
 -- the most requests, handles and tokens of one connection, each
 abbrev pub most_drawn : ℕ
-most_drawn = 4294967295
+most_drawn = MOST_DRAWN
 
 -- whether a plain argument is a map that callers may not pass
 abbrev pub is_reserved_arg : Arg → Bool

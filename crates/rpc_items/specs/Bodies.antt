@@ -1,7 +1,9 @@
 -- Messages that can't be written.
 use Rattle.std.specs.Prelude.{ℕ, ◌+◌, List, [], ◌∷◌, Bool, ◌&&◌, ◌||◌, nat_lt, if◌then◌else◌, Option, Some, None}
 use Rattle.std.specs.List.{list_any}
+use Rattle.wire_base.specs.Options.{or_else}
 use Rattle.wire_base.specs.Tree.{Tree, trees_of}
+use Rattle.wire_base.specs.declared.limits.TheConstants.{MAX_BODY, MAX_NESTING}
 use Rattle.wire_base.specs.declared.refusal.Refusal.{Refusal}
 use Rattle.wire_base.specs.declared.refusal.Refusal.TheVariants as refusal
 use Rattle.rpc_items.specs.declared.messages.Message.{Message}
@@ -16,20 +18,15 @@ pub record Encoder : Type 0 where
 
 -- how deep arrays and maps may stand in one another
 abbrev pub most_nested : ℕ
-most_nested = 127
+most_nested = MAX_NESTING
 
 -- the most bytes of a message's body
 abbrev pub most_body : ℕ
-most_body = 16777216
+most_body = MAX_BODY
 
 -- the most bytes of a page in a body
 abbrev pub most_page : ℕ
 most_page = 16760832
-
--- the first refusal, or where there is none the other
-abbrev pub or_else : Option Refusal → Option Refusal → Option Refusal
-or_else (Some r) otherwise = Some r
-or_else None otherwise = otherwise
 
 -- why a value can't be the body of a message
 abbrev pub body_refusal : Encoder → Tree → Option Refusal

@@ -5,6 +5,7 @@ use Rattle.wire_base.specs.Tree.{Tree}
 use Rattle.wire_base.specs.declared.text.Id.{Id}
 use Rattle.wire_base.specs.declared.text.Id.TheVariants.{Number, Name}
 use Rattle.wire_base.specs.Tree as tree
+use Rattle.rpc_items.specs.declared.limits.TheConstants.{LONGEST_ID}
 
 -- whether two ids are the same: equal numbers, or equal texts
 abbrev pub same_id : Id → Id → Bool
@@ -27,13 +28,18 @@ is_id_number (negsuc n) = nat_lt n whole_bound
 
 -- the most bytes of a text that is an id
 abbrev pub most_id_text : ℕ
-most_id_text = 1024
+most_id_text = LONGEST_ID
 
 -- the id or token that a value is: a number of 64 bits, or a text that isn't too long
 abbrev pub id_in : Tree → Option Id
 id_in (tree.whole z) = if is_id_number z then Some (Number z) else None
 id_in (tree.words s) = if nat_le (length s) most_id_text then Some (Name s) else None
 id_in value = None
+
+-- the id or token that a value is, where there is one
+abbrev pub id_if : Option Tree → Option Id
+id_if (Some value) = id_in value
+id_if None = None
 
 -- an id as a value
 abbrev pub id_value : Id → Tree

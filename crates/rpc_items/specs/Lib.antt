@@ -1,3 +1,4 @@
+pub mod Checks
 pub mod Codes
 pub mod Ids
 pub mod Values
@@ -31,4 +32,4 @@ pub mod Stable
 pub mod Answered
 pub mod Resting
 pub mod Fitting
-pub mod Sayable
+pub mod Told

@@ -9,7 +9,7 @@ use Rattle.rpc_items.specs.declared.methods.Meaning.TheVariants.{Serves, Cancels
 use Rattle.rpc_items.specs.declared.messages.Params.{Params}
 use Rattle.rpc_items.specs.declared.messages.Params.TheVariants.{Named}
 use Rattle.rpc_items.specs.declared.messages.Params.TheVariants as params
-use Rattle.rpc_items.specs.Ids.{whole_bound, id_in}
+use Rattle.rpc_items.specs.Ids.{whole_bound, id_if}
 use Rattle.rpc_items.specs.Methods.{cancel_request, progress, next_page, abort_pages, release_object, invoke_proxy, slash, after_front, is_reserved}
 
 -- the one argument, named or positional, where there is just that
@@ -29,11 +29,6 @@ abbrev pub second_argument : (name : List ℕ) → Params → Option Tree
 second_argument name (Named ps) = last_of name ps
 second_argument name (params.List (a ∷ b ∷ [])) = Some b
 second_argument name params = None
-
--- an argument that has to be an id
-abbrev pub id_argument : Option Tree → Option Id
-id_argument (Some value) = id_in value
-id_argument None = None
 
 -- a cancellation names a request
 abbrev pub cancels_by : Option Id → Meaning
@@ -89,9 +84,9 @@ calls_after None = Unknown
 abbrev pub meaning : List ℕ → Params → Meaning
 meaning method params =
     if not (is_reserved method) then Serves
-    else if bytes_eq method cancel_request then cancels_by (id_argument (one_argument (codes "id") params))
-    else if bytes_eq method progress then reports_by (id_argument (first_argument (codes "token") params)) (second_argument (codes "value") params)
-    else if bytes_eq method next_page then turns_by (id_argument (one_argument (codes "token") params))
-    else if bytes_eq method abort_pages then aborts_by (id_argument (one_argument (codes "token") params))
+    else if bytes_eq method cancel_request then cancels_by (id_if (one_argument (codes "id") params))
+    else if bytes_eq method progress then reports_by (id_if (first_argument (codes "token") params)) (second_argument (codes "value") params)
+    else if bytes_eq method next_page then turns_by (id_if (one_argument (codes "token") params))
+    else if bytes_eq method abort_pages then aborts_by (id_if (one_argument (codes "token") params))
     else if bytes_eq method release_object then releases_by (first_argument (codes "handle") params) (second_argument (codes "ownedBySender") params)
     else calls_after (after_front invoke_proxy method)

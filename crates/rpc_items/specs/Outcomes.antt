@@ -1,5 +1,6 @@
 -- What became of own requests.
 use Rattle.std.specs.Prelude.{ℕ, pos, List, [], ◌∷◌, Bool, true, false, not, ◌&&◌, is_none, if◌then◌else◌, Option, Some, None}
+use Rattle.wire_base.specs.Options.{or_else}
 use Rattle.wire_base.specs.declared.text.Id.{Id}
 use Rattle.wire_base.specs.declared.text.Id.TheVariants.{Number}
 use Rattle.rpc_items.specs.declared.calls.Outcome.{Outcome}
@@ -21,15 +22,10 @@ abbrev pub response_to : ℕ → RpcItem → Option Outcome
 response_to n (Got place message) = response_in n message
 response_to n item = None
 
--- the earlier one, or where there is none the later
-abbrev pub first_of : {A : Type 0} → Option A → Option A → Option A
-first_of (Some one) later = Some one
-first_of None later = later
-
 -- the first response to request n that stands after its drawing and before any end
 abbrev pub answer_to : ℕ → List RpcItem → Option Outcome
 answer_to n [] = None
-answer_to n (item ∷ items) = if is_running items && is_drawn n items then first_of (answer_to n items) (response_to n item) else answer_to n items
+answer_to n (item ∷ items) = if is_running items && is_drawn n items then or_else (answer_to n items) (response_to n item) else answer_to n items
 
 -- whether request n was drawn and waits for its response
 abbrev pub is_unanswered : ℕ → List RpcItem → Bool

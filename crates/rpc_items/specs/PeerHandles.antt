@@ -2,6 +2,7 @@
 use Rattle.std.specs.Prelude.{ℕ, List, [], ◌∷◌, Bool, true, false, ◌||◌, ◌==◌, is_some, if◌then◌else◌, Option, Some, None}
 use Rattle.wire_base.specs.Tree.{Tree}
 use Rattle.wire_base.specs.declared.text.Id.{Id}
+use Rattle.wire_base.specs.Options.{or_else}
 use Rattle.rpc_items.specs.declared.calls.Lifetime.{Lifetime}
 use Rattle.rpc_items.specs.declared.calls.Lifetime.TheVariants.{Call, Explicit}
 use Rattle.rpc_items.specs.declared.messages.Message.{Message}
@@ -14,7 +15,7 @@ use Rattle.rpc_items.specs.declared.methods.Meaning.{Meaning}
 use Rattle.rpc_items.specs.declared.methods.Meaning.TheVariants.{Serves}
 use Rattle.rpc_items.specs.Meanings.{meaning}
 use Rattle.rpc_items.specs.Items.{Respond, Release, RpcItem, Did, Got, End}
-use Rattle.rpc_items.specs.Outcomes.{first_of, request_named}
+use Rattle.rpc_items.specs.Outcomes.{request_named}
 use Rattle.rpc_items.specs.OwnHandles.{releases}
 use Rattle.rpc_items.specs.Waiting.{asks}
 
@@ -36,7 +37,7 @@ adopted_by number request None = None
 -- the handle as whole values offer it, left to right: the first that does counts
 abbrev pub adopted_in : ℕ → (request : Option Id) → List Tree → Option Adopted
 adopted_in number request [] = None
-adopted_in number request (value ∷ values) = first_of (adopted_by number request (offered_in value)) (adopted_in number request values)
+adopted_in number request (value ∷ values) = or_else (adopted_by number request (offered_in value)) (adopted_in number request values)
 
 -- whether this meaning is a method of the service
 abbrev pub is_service : Meaning → Bool
@@ -53,7 +54,7 @@ adoption number message items = None
 -- the first adoption of peer handle n
 abbrev pub adopted : ℕ → List RpcItem → Option Adopted
 adopted number [] = None
-adopted number (Got place message ∷ items) = first_of (adopted number items) (adoption number message items)
+adopted number (Got place message ∷ items) = or_else (adopted number items) (adoption number message items)
 adopted number (item ∷ items) = adopted number items
 
 -- whether this id is that of the request with whose response a handle ends

@@ -11,7 +11,7 @@ use Rattle.rpc_items.specs.declared.messages.Message.{Message}
 use Rattle.rpc_items.specs.declared.messages.Message.TheVariants.{Request, Notification}
 use Rattle.rpc_items.specs.declared.messages.Params.TheVariants as params
 use Rattle.rpc_items.specs.declared.messages.Message.TheVariants as message
-use Rattle.rpc_items.specs.Ids.{is_id_number, id_in}
+use Rattle.rpc_items.specs.Ids.{is_id_number, id_in, id_if}
 use Rattle.rpc_items.specs.Values.{member}
 
 -- whether a member is the version 2.0
@@ -59,11 +59,6 @@ abbrev pub result_with : Option Id → Tree → Result Message Reason
 result_with (Some id) value = Ok (message.Result id value)
 result_with None value = Err reason.BadId62
 
--- an id that has to be there
-abbrev pub required_id : Option Tree → Option Id
-required_id (Some value) = id_in value
-required_id None = None
-
 -- an error: first its id, then a code that is a whole number of 64 bits and a message that is a text
 abbrev pub error_with : Result (Option Id) Reason → (code text more : Option Tree) → Result Message Reason
 error_with (Err r) code text more = Err r
@@ -72,7 +67,7 @@ error_with (Ok id) code text more = Err reason.BadError
 
 -- a response has a result or an error and not both; an error's id may also be nil or absent
 abbrev pub response_with : (id result error : Option Tree) → Result Message Reason
-response_with id (Some value) None = result_with (required_id id) value
+response_with id (Some value) None = result_with (id_if id) value
 response_with id None (Some error) = error_with (optional_id (unless_nil id)) (member (codes "code") error) (member (codes "message") error) (member (codes "data") error)
 response_with id result error = Err reason.BothOrNeither
 

@@ -7,6 +7,7 @@ use Rattle.wire_base.specs.declared.refusal.Refusal.{Refusal}
 use Rattle.wire_base.specs.declared.text.Id.{Id}
 use Rattle.wire_base.specs.declared.reason.Reason.TheVariants as reason
 use Rattle.wire_base.specs.declared.refusal.Refusal.TheVariants as refusal
+use Rattle.wire_base.specs.Options.{or_else}
 use Rattle.rpc_items.specs.declared.calls.Answer.{Answer}
 use Rattle.rpc_items.specs.declared.calls.HandleKey.{HandleKey}
 use Rattle.rpc_items.specs.declared.messages.Message.{Message}
@@ -27,7 +28,7 @@ use Rattle.rpc_items.specs.Handles.{is_made, has_ended}
 use Rattle.rpc_items.specs.Pages.{page_values}
 use Rattle.rpc_items.specs.Sequences.{is_turning, sequence_of}
 use Rattle.rpc_items.specs.Saying.{response, said}
-use Rattle.rpc_items.specs.Bodies.{Encoder, or_else, first_refusal, sequence_refusal}
+use Rattle.rpc_items.specs.Bodies.{Encoder, first_refusal, sequence_refusal}
 use Rattle.rpc_items.specs.Arguments.{most_drawn, args_refusal, needs_request}
 
 -- why a call is refused that is made before the end alone

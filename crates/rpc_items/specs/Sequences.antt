@@ -1,12 +1,11 @@
 -- Sequences at the end that asks for them.
 use Rattle.std.specs.Prelude.{ℕ, ◌+◌, List, [], ◌∷◌, Bool, true, false, not, ◌||◌, ◌==◌, codes, if◌then◌else◌, Option, Some, None}
-use Rattle.wire_base.specs.Tree.{Tree}
 use Rattle.wire_base.specs.declared.text.Id.{Id}
 use Rattle.rpc_items.specs.declared.calls.Expect.{Expect}
 use Rattle.rpc_items.specs.declared.calls.Expect.TheVariants.{Plain, Sequence}
 use Rattle.rpc_items.specs.declared.calls.Outcome.{Outcome}
 use Rattle.rpc_items.specs.declared.calls.Outcome.TheVariants.{Replied}
-use Rattle.rpc_items.specs.Ids.{id_in}
+use Rattle.rpc_items.specs.Ids.{id_if}
 use Rattle.rpc_items.specs.Values.{member, is_true}
 use Rattle.rpc_items.specs.Items.{Next, Abort, RpcItem, Did, is_running}
 use Rattle.rpc_items.specs.Drawn.{Asked, drawn, asked_at}
@@ -22,14 +21,9 @@ abbrev pub expects_sequence : Option Asked → Bool
 expects_sequence (Some asked) = is_sequence asked.expect
 expects_sequence None = false
 
--- the token that a member of a result is
-abbrev pub token_in : Option Tree → Option Id
-token_in (Some value) = id_in value
-token_in None = None
-
 -- the token in the answer to a request
 abbrev pub token_of : Option Outcome → Option Id
-token_of (Some (Replied value)) = token_in (member (codes "token") value)
+token_of (Some (Replied value)) = id_if (member (codes "token") value)
 token_of outcome = None
 
 -- the token of the sequence that is the result of request n, where one was expected

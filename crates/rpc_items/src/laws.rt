@@ -26,7 +26,7 @@ ghost use Rattle.rpc_items.specs.Stable.{IsStable, IsReal, starved, Settles};
 ghost use Rattle.rpc_items.specs.Answered.{AnswersOnce, IsDrawnOnce, SaysOne};
 ghost use Rattle.rpc_items.specs.Resting.{RestsAfterEnd, releases_of};
 ghost use Rattle.rpc_items.specs.Fitting.{IsFrontOf, Fits, page_to_come, IsFair, IsNamed, AreWritable};
-ghost use Rattle.rpc_items.specs.Sayable.{IsSayable};
+ghost use Rattle.rpc_items.specs.Told.{CanBeTold};
 ghost use Rattle.rpc_items.specs.declared.calls.HandleKey.{HandleKey};
 ghost use Rattle.rpc_items.specs.declared.messages.Message.{Message};
 
@@ -101,7 +101,7 @@ pub fn methods_are_understood()
 
 /// A message that is written as a value is read as that message.
 pub fn messages_are_read_again()
-    ensures { (m : Message) → IsSayable m → message_in (message_value m) ≡ Ok m }
+    ensures { (m : Message) → CanBeTold m → message_in (message_value m) ≡ Ok m }
 {}
 
 /// The answers that the connection gives by itself can be written, where the encoding adds no more than there is room

@@ -7,7 +7,7 @@ mod reader;
 mod writer;
 
 pub use fault::MessageFault;
-pub use members::id_in;
+pub use members::{id_if, id_in};
 pub use reader::of_datum;
 pub use rpc_items::{Message, Params};
 pub use writer::to_datum;

@@ -3,21 +3,18 @@
 ghost use Rattle.std.specs.Prelude.{◌≡◌, codes, Err, IfOk, IfSome, IfNone, true, false};
 ghost use Rattle.std.specs.Option.{option_copied};
 ghost use Rattle.wire_base.specs.Find.{last_of};
-ghost use Rattle.rpc_items.specs.Ids.{id_in, is_id_number};
+ghost use Rattle.rpc_items.specs.Ids.{id_if, id_in, is_id_number};
 ghost use Rattle.rpc_items.specs.Reading.{is_version, optional_id, params_in, unless_nil};
 ghost use Rattle.rpc_message.specs.Reads.{Reads};
 ghost use Rattle.rpc_message.specs.declared.fault.MessageFault.{MessageFault};
 
 use crate::fault::MessageFault;
-use rpc_items::Params;
+use rpc_items::{LONGEST_ID, Params};
 use std::alloc::Global;
 use wire_base::{Datum, Id, Node, OutOfMemory, PairList, Reason, Whole};
 
 /// The version of messages.
 pub(crate) const VERSION: &str = "2.0";
-
-/// The most bytes of a text that is an id.
-const LONGEST_ID: usize = 1024;
 
 /// Whether the members tell the version.
 pub(crate) fn has_version(members: &PairList) -> bool
@@ -76,6 +73,16 @@ pub fn id_in(alloc: Global, value: &Datum) -> Result<Option<Id>, OutOfMemory>
             }
         }
         _ => Ok(None),
+    }
+}
+
+/// The id that a value is, where there is one.
+pub fn id_if(alloc: Global, value: Option<&Datum>) -> Result<Option<Id>, OutOfMemory>
+    ensures { IfOk result (λ id. id ≡ id_if (option_copied value.entry)) }
+{
+    match value {
+        Some(value) => id_in(alloc, value),
+        None => Ok(None),
     }
 }
 

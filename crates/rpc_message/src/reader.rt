@@ -1,15 +1,16 @@
 //! The message that a value is.
 
-ghost use Rattle.std.specs.Prelude.{◌≡◌, codes, Ok, Some};
+ghost use Rattle.std.specs.Prelude.{codes, Ok, Some};
 ghost use Rattle.std.specs.Option.{option_copied};
 ghost use Rattle.wire_base.specs.Find.{last_of};
 ghost use Rattle.wire_base.specs.Tree.{pairs, pairs_of};
+ghost use Rattle.rpc_items.specs.Ids.{id_if};
 ghost use Rattle.rpc_items.specs.Values.{member};
-ghost use Rattle.rpc_items.specs.Reading.{call_in, error_with, message_in, optional_id, required_id, response_with, result_with, unless_nil};
+ghost use Rattle.rpc_items.specs.Reading.{call_in, error_with, message_in, optional_id, response_with, result_with, unless_nil};
 ghost use Rattle.rpc_message.specs.Reads.{Reads};
 
 use crate::fault::MessageFault;
-use crate::members::{copied, has_version, id_in, optional_id, params_in, signed, unless_nil};
+use crate::members::{copied, has_version, id_if, optional_id, params_in, signed, unless_nil};
 use rpc_items::Message;
 use std::alloc::Global;
 use wire_base::{Datum, Id, Node, PairList, Reason};
@@ -34,13 +35,10 @@ fn call_of(alloc: Global, method: &Datum, members: &PairList) -> Result<Message,
 
 /// A result, which has to have an id.
 fn result_of(alloc: Global, members: &PairList, value: &Datum) -> Result<Message, MessageFault>
-    ensures { Reads (result_with (required_id (last_of (codes "id") members.now)) value.now) result }
+    ensures { Reads (result_with (id_if (last_of (codes "id") members.now)) value.now) result }
 {
-    match members.last("id") {
-        Some(id) => match id_in(alloc, id)? {
-            Some(id) => Ok(Message::Result(id, value.copy(alloc)?)),
-            None => Err(MessageFault::Refused(Reason::BadId62)),
-        },
+    match id_if(alloc, members.last("id"))? {
+        Some(id) => Ok(Message::Result(id, value.copy(alloc)?)),
         None => Err(MessageFault::Refused(Reason::BadId62)),
     }
 }

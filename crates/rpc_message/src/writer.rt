@@ -1,9 +1,9 @@
 //! A message as a value.
 
-ghost use Rattle.std.specs.Prelude.{◌≡◌, ◌++◌, ◌∷◌, [], codes, List, ℕ, IfOk, OnOk};
-ghost use Rattle.wire_base.specs.Tree.{items, pairs_of, trees_of, whole, words};
+ghost use Rattle.std.specs.Prelude.{◌≡◌, ◌++◌, ◌∷◌, [], codes, List, IfOk, OnOk};
+ghost use Rattle.wire_base.specs.Tree.{whole, words};
 ghost use Rattle.rpc_items.specs.Ids.{id_value};
-ghost use Rattle.rpc_items.specs.Sayable.{HasNamedId, IsSayable};
+ghost use Rattle.rpc_items.specs.Told.{CanBeTold, HasNamedId};
 ghost use Rattle.rpc_items.specs.Values.{map_of};
 ghost use Rattle.rpc_items.specs.Writing.{error_id, message_value, params_value, version_member, with_member};
 
@@ -164,7 +164,7 @@ fn error(alloc: Global, id: &Option<Id>, told: PairList) -> Result<PairList, Out
 /// A message as a value, with its members in the order jsonrpc, id, method, params, result, error.
 pub fn to_datum(alloc: Global, message: &Message) -> Result<Datum, OutOfMemory>
     ensures value { IfOk result (λ value. value ≡ message_value message.now) }
-    ensures sayable { OnOk result (HasNamedId message.now → IsSayable message.now) }
+    ensures can_be_told { OnOk result (HasNamedId message.now → CanBeTold message.now) }
 {
     let members = match message {
         Message::Request(id, method, params) => request(alloc, id, method, params)?,

@@ -1,15 +1,13 @@
 //! Arguments of the extensions, named or positional.
 
-ghost use Rattle.std.specs.Prelude.{◌≡◌, IfOk, Some};
+ghost use Rattle.std.specs.Prelude.{◌≡◌, Some};
 ghost use Rattle.std.specs.Option.{option_copied};
-ghost use Rattle.rpc_items.specs.Meanings.{first_argument, id_argument, one_argument, second_argument};
+ghost use Rattle.rpc_items.specs.Meanings.{first_argument, one_argument, second_argument};
 ghost use Rattle.rpc_items.specs.Objects.{handle_in};
 ghost use Rattle.wire_base.specs.Tree.{whole};
 
 use rpc_items::Params;
-use rpc_message::id_in;
-use std::alloc::Global;
-use wire_base::{Datum, Id, Node, OutOfMemory, Whole};
+use wire_base::{Datum, Node, Whole};
 
 /// The one argument, where there is just that.
 pub(crate) fn one_argument<'a>(params: &'a Params, name: &str) -> Option<&'a Datum>
@@ -41,19 +39,6 @@ pub(crate) fn two_arguments<'a>(
             _ => (None, None),
         },
         Params::Named(pairs) => (pairs.last(first), pairs.last(second)),
-    }
-}
-
-/// An argument that has to be an id.
-pub(crate) fn id_argument(
-    alloc: Global,
-    argument: Option<&Datum>,
-) -> Result<Option<Id>, OutOfMemory>
-    ensures { IfOk result (λ id. id ≡ id_argument (option_copied argument.entry)) }
-{
-    match argument {
-        Some(value) => id_in(alloc, value),
-        None => Ok(None),
     }
 }
 

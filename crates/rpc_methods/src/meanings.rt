@@ -1,22 +1,24 @@
 //! What methods ask for.
 
 ghost use Rattle.std.specs.Prelude.{◌≡◌, IfOk, Some, codes};
-ghost use Rattle.rpc_items.specs.Meanings.{aborts_by, calls_after, cancels_by, first_argument, id_argument, meaning, one_argument, releases_by, reports_by, second_argument, turns_by};
+ghost use Rattle.rpc_items.specs.Ids.{id_if};
+ghost use Rattle.rpc_items.specs.Meanings.{aborts_by, calls_after, cancels_by, first_argument, meaning, one_argument, releases_by, reports_by, second_argument, turns_by};
 ghost use Rattle.rpc_items.specs.Methods.{after_front, invoke_proxy};
 
-use crate::arguments::{handle_in, id_argument, one_argument, two_arguments};
+use crate::arguments::{handle_in, one_argument, two_arguments};
 use crate::called::called;
 use crate::names::{ABORT_PAGES, CANCEL_REQUEST, NEXT_PAGE, PROGRESS, RELEASE_OBJECT};
 use crate::reserved::is_reserved;
 use rpc_items::{HandleKey, Meaning, Params};
+use rpc_message::id_if;
 use std::alloc::Global;
 use wire_base::{Datum, Node, OutOfMemory, Text};
 
 /// A cancellation names a request.
 fn cancels(alloc: Global, params: &Params) -> Result<Meaning, OutOfMemory>
-    ensures { IfOk result (λ m. m ≡ cancels_by (id_argument (one_argument (codes "id") params.now))) }
+    ensures { IfOk result (λ m. m ≡ cancels_by (id_if (one_argument (codes "id") params.now))) }
 {
-    match id_argument(alloc, one_argument(params, "id"))? {
+    match id_if(alloc, one_argument(params, "id"))? {
         Some(id) => Ok(Meaning::Cancels(id)),
         None => Ok(Meaning::Mistakes),
     }
@@ -24,10 +26,10 @@ fn cancels(alloc: Global, params: &Params) -> Result<Meaning, OutOfMemory>
 
 /// A report has a token and a value.
 fn reports(alloc: Global, params: &Params) -> Result<Meaning, OutOfMemory>
-    ensures { IfOk result (λ m. m ≡ reports_by (id_argument (first_argument (codes "token") params.now)) (second_argument (codes "value") params.now)) }
+    ensures { IfOk result (λ m. m ≡ reports_by (id_if (first_argument (codes "token") params.now)) (second_argument (codes "value") params.now)) }
 {
     let (token, value) = two_arguments(params, "token", "value");
-    match (id_argument(alloc, token)?, value) {
+    match (id_if(alloc, token)?, value) {
         (Some(token), Some(value)) => Ok(Meaning::Reports(token, value.copy(alloc)?)),
         _ => Ok(Meaning::Mistakes),
     }
@@ -35,9 +37,9 @@ fn reports(alloc: Global, params: &Params) -> Result<Meaning, OutOfMemory>
 
 /// A request for a page names a sequence.
 fn turns(alloc: Global, params: &Params) -> Result<Meaning, OutOfMemory>
-    ensures { IfOk result (λ m. m ≡ turns_by (id_argument (one_argument (codes "token") params.now))) }
+    ensures { IfOk result (λ m. m ≡ turns_by (id_if (one_argument (codes "token") params.now))) }
 {
-    match id_argument(alloc, one_argument(params, "token"))? {
+    match id_if(alloc, one_argument(params, "token"))? {
         Some(token) => Ok(Meaning::Turns(token)),
         None => Ok(Meaning::Mistakes),
     }
@@ -45,9 +47,9 @@ fn turns(alloc: Global, params: &Params) -> Result<Meaning, OutOfMemory>
 
 /// An abort names a sequence.
 fn aborts(alloc: Global, params: &Params) -> Result<Meaning, OutOfMemory>
-    ensures { IfOk result (λ m. m ≡ aborts_by (id_argument (one_argument (codes "token") params.now))) }
+    ensures { IfOk result (λ m. m ≡ aborts_by (id_if (one_argument (codes "token") params.now))) }
 {
-    match id_argument(alloc, one_argument(params, "token"))? {
+    match id_if(alloc, one_argument(params, "token"))? {
         Some(token) => Ok(Meaning::Aborts(token)),
         None => Ok(Meaning::Mistakes),
     }

@@ -1,6 +1,5 @@
 -- The rest of a line, written and read.
-use Rattle.std.proofs.Common.{◌≡◌, ℕ, ◌+◌, ◌<◌, true, cond, eqb, ◌⊎◌, inl, inr, List, [], ◌∷◌, ◌++◌, length, map, refl, Option, Some, None, Result, Ok, Err, sym, ap, arith}
-use Rattle.std.specs.Prelude.{is_some}
+use Rattle.std.proofs.Common.{◌≡◌, ℕ, ◌+◌, ◌<◌, true, cond, eqb, ◌⊎◌, inl, inr, List, [], ◌∷◌, ◌++◌, length, map, refl, Ok, Err, sym, ap, arith}
 use Rattle.std.specs.List.{list_all, join_by, join_with_byte}
 use Rattle.std.proofs.lemmas.List.{append-nil}
 use Rattle.std.proofs.lemmas.List.Splits.{join_with_byte-slice_split, length-slice_split}
@@ -8,11 +7,8 @@ use Rattle.text_words.specs.Bytes.{space}
 use Rattle.text_words.specs.Reading.{words_of}
 use Rattle.text_words.specs.Written.{is_text_word}
 use Rattle.text_words.proofs.Joined.{joined-text, joined-words, line-words}
-use Rattle.script.specs.declared.reason.ScriptReason.{ScriptReason}
 use Rattle.script.specs.declared.reason.ScriptReason.TheVariants as reason
-use Rattle.script.specs.Given.{GivesRest}
-use Rattle.script.specs.Rests.{Rest, nothing, json, arguments, string, array, RestValue, write_rest, text_behind, if_fits, read_rest, is_there, is_of_form}
-use Rattle.script.specs.Table.{or_else}
+use Rattle.script.specs.Rests.{Rest, nothing, json, arguments, string, array, RestValue, write_rest, text_behind, read_rest, is_there, is_of_form}
 
 -- ---- texts that have words
 
@@ -74,15 +70,3 @@ rest_or_bad_word string (word ∷ words) t =
 rest_or_bad_word array [] t = inl refl
 rest_or_bad_word array (word ∷ words) t =
     inr (record { rest = join_with_byte space (word ∷ words); is = sym (joined-words word words t); there = joined-text (word ∷ words) t })
-
--- ---- what the readers of texts answer
-
--- a text that is read as something is what it is read as
-pub reads_text : {X : Type 0} (read : List ℕ → Option X) (otherwise : X) (found : Result (List ℕ) ScriptReason) (text : List ℕ) (x : X) → found ≡ Ok text → read text ≡ Some x
-    → GivesRest (λ t. or_else otherwise (read t)) (Ok x) (if_fits (λ t. is_some (read t)) found)
-reads_text read otherwise found text x e h = (text, rw (e, h) refl, rw h refl)
-
--- one that is read as nothing isn't of its form
-pub reads_no_text : {X : Type 0} (read : List ℕ → Option X) (found : Result (List ℕ) ScriptReason) (text : List ℕ) → found ≡ Ok text → read text ≡ None
-    → if_fits (λ t. is_some (read t)) found ≡ Err reason.BadJson
-reads_no_text read found text e h = rw (e, h) refl

@@ -1,5 +1,5 @@
 -- The steps of a script: the step word of each, the forms of the words behind it, what the rest of its line is, and what they mean.
-use Rattle.std.specs.Prelude.{ℕ, pos, List, [], ◌∷◌, replicate, codes, Option, Some, None}
+use Rattle.std.specs.Prelude.{ℕ, pos, List, [], ◌∷◌, replicate, codes, unwrap_or, None}
 use Rattle.wire_base.specs.Tree.{Tree, nil}
 use Rattle.wire_base.specs.declared.text.Id.{Id}
 use Rattle.wire_base.specs.declared.text.Id.TheVariants as ids
@@ -107,24 +107,20 @@ rest_of word.Deliver = nothing
 rest_of word.End = nothing
 
 -- what texts stand for that are of their forms
-abbrev pub or_else : {A : Type 0} → A → Option A → A
-or_else otherwise (Some x) = x
-or_else otherwise None = otherwise
-
 abbrev pub json_said : List ℕ → Tree
-json_said text = or_else nil (json_in text)
+json_said text = unwrap_or (json_in text) nil
 
 abbrev pub id_said : List ℕ → Id
-id_said text = or_else (ids.Number (pos 0)) (json_id_in text)
+id_said text = unwrap_or (json_id_in text) (ids.Number (pos 0))
 
 abbrev pub string_said : List ℕ → List ℕ
-string_said text = or_else [] (string_in text)
+string_said text = unwrap_or (string_in text) []
 
 abbrev pub array_said : List ℕ → List Tree
-array_said text = or_else [] (array_in text)
+array_said text = unwrap_or (array_in text) []
 
 abbrev pub arguments_said : List ℕ → Arguments
-arguments_said text = or_else Absent (arguments_in text)
+arguments_said text = unwrap_or (arguments_in text) Absent
 
 -- a line that fills nothing
 abbrev pub plain : Step → LineStep

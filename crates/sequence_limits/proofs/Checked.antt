@@ -10,13 +10,14 @@ use Rattle.wire_base.specs.declared.fault.CallFault.{CallFault}
 use Rattle.wire_base.specs.declared.fault.CallFault.TheVariants as call
 use Rattle.wire_base.specs.declared.refusal.Refusal.{Refusal}
 use Rattle.wire_base.specs.declared.refusal.Refusal.TheVariants as refusal
-use Rattle.rpc_items.specs.Bodies.{Encoder, most_nested, most_page, or_else}
+use Rattle.wire_base.specs.Options.{or_else}
+use Rattle.wire_base.proofs.Places.{above_zero}
+use Rattle.rpc_items.specs.Bodies.{Encoder, most_nested, most_page}
 use Rattle.rpc_items.specs.Pages.{page_value, page_values}
 use Rattle.message_body.specs.Replies.{Writes}
 use Rattle.sequence_limits.specs.Limits.{pages_refusal, values_refusal}
 use Rattle.sequence_limits.proofs.Kept.{clear, clear_front, clear_rest}
 use Rattle.sequence_limits.proofs.Nested.{is_too_deep, page_bytes, page_deep}
-use Rattle.sequence_limits.proofs.Refused.{positive}
 
 -- ---- what is left, and its first page
 
@@ -66,7 +67,7 @@ pub all_refused : (k : Encoder) (page first : ℕ) (values left : List Tree) →
     → pages_refusal k (page_values (length values) page (drop first values)) ≡ refusal_of k page left
 all_refused k page first values left p is =
     let less = length-drop first values in
-    ap (pages_refusal k) (same_pages (length values) (length (drop first values)) page (drop first values) (positive page p) (omega arith) (omega arith))
+    ap (pages_refusal k) (same_pages (length values) (length (drop first values)) page (drop first values) (above_zero page p) (omega arith) (omega arith))
     ∙ ap (refusal_of k page) (sym is)
 
 one_more : (k : Encoder) (page : ℕ) (values : List Tree) → (page == 0) ≡ false → (length values == 0) ≡ false → refusal_of k page values ≡ or_else (pages_refusal k (next page values ∷ [])) (refusal_of k page (drop page values))
@@ -74,7 +75,7 @@ one_more k page [] p l = absurd cc
 one_more k page (v ∷ values) p l =
     let rest = drop page (v ∷ values) in
     let less = length-drop page (v ∷ values) in
-    let some = positive page p in
+    let some = above_zero page p in
     one_of_more (nat_lt most_page (k.size (next page (v ∷ values)))) (list_any (λ page. nat_lt most_page (k.size page)) (page_values (length values) page rest))
     ∙ ap (λ (pages : List Tree). or_else (pages_refusal k (next page (v ∷ values) ∷ [])) (pages_refusal k pages)) (same_pages (length values) (length rest) page rest some (omega arith) (omega arith))
 

@@ -9,16 +9,17 @@ use Rattle.wire_base.specs.Values.{items_hold_bytes}
 use Rattle.wire_base.specs.declared.refusal.Refusal.TheVariants as refusal
 use Rattle.wire_base.specs.declared.text.Id.{Id}
 use Rattle.wire_base.specs.declared.text.Id.TheVariants.{Number, Name}
+use Rattle.wire_base.specs.Lists.{changed_at}
+use Rattle.wire_base.proofs.Places.{above_zero}
 use Rattle.rpc_items.specs.Bodies.{Encoder, most_page}
 use Rattle.rpc_items.specs.Drawn.{with_number}
 use Rattle.rpc_items.specs.Fitting.{Fits}
 use Rattle.rpc_items.specs.Pages.{page_value, page_values}
-use Rattle.enumerables.specs.Producer.{all_ended, changed, changed_at, ending, given_up, has_left, named_in, page_at, page_if, page_in, page_of, paging, turned, with_sequence}
+use Rattle.enumerables.specs.Producer.{all_ended, changed, ending, given_up, has_left, named_in, page_at, page_if, page_in, page_of, paging, turned, with_sequence}
 use Rattle.enumerables.specs.declared.sequence.Sequence.{Sequence}
 use Rattle.sequence_limits.specs.Fitting.{AllFit, PagesFit}
 use Rattle.sequence_limits.specs.Limits.{pages_refusal, values_refusal}
 use Rattle.sequence_limits.proofs.Nested.{drop_bytes, is_too_deep, page_bytes, page_deep, parts_none, take_bytes}
-use Rattle.sequence_limits.proofs.Refused.{positive}
 
 -- ---- values that can be those of a sequence
 
@@ -67,7 +68,7 @@ all_fit : (k : Encoder) (values : List Tree) (page first most : ℕ) → (page =
     → AllFit k (page_values most page (drop first values))
 all_fit k values page first most p v e =
     let less = length-drop first values in
-    front_fits k most (length values) page (drop first values) (positive page p) (omega arith) (clear_rest k first values (clear k values v)) (none_long _ e)
+    front_fits k most (length values) page (drop first values) (above_zero page p) (omega arith) (clear_rest k first values (clear k values v)) (none_long _ e)
 
 -- ---- one more sequence
 

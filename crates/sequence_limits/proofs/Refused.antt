@@ -1,14 +1,15 @@
 -- A sequence is refused for its values, then for its response, then for its pages.
 use Rattle.std.specs.Prelude.{Bool, true, false, ◌==◌, ◌&&◌, ◌||◌, nat_lt, if◌then◌else◌}
 use Rattle.std.specs.List.{list_any}
-use Rattle.std.proofs.Common.{◌≡◌, ℕ, ◌+◌, ◌<◌, List, length, take, drop, refl, ◌∙◌, ap, ap₂, arith, Option, Some, None}
-use Rattle.std.proofs.lemmas.Bool.Decides.{nat_tests}
+use Rattle.std.proofs.Common.{◌≡◌, ℕ, ◌+◌, List, length, take, drop, refl, ◌∙◌, ap, ap₂, arith, Option, Some, None}
 use Rattle.std.proofs.lemmas.List.{length-drop}
 use Rattle.wire_base.specs.Tree.{Tree, trees_of}
 use Rattle.wire_base.specs.Values.{nesting, holds_bytes, items_hold_bytes}
 use Rattle.wire_base.specs.declared.refusal.Refusal.TheVariants as refusal
 use Rattle.wire_base.specs.declared.text.Id.{Id}
-use Rattle.rpc_items.specs.Bodies.{Encoder, most_nested, most_body, most_page, body_refusal, or_else, sequence_refusal}
+use Rattle.wire_base.specs.Options.{or_else}
+use Rattle.wire_base.proofs.Places.{above_zero}
+use Rattle.rpc_items.specs.Bodies.{Encoder, most_nested, most_body, most_page, body_refusal, sequence_refusal}
 use Rattle.rpc_items.specs.Pages.{page_values}
 use Rattle.rpc_items.specs.Saying.{result_of_sequence}
 use Rattle.rpc_items.specs.Writing.{message_value}
@@ -28,9 +29,6 @@ in_order false false long page true in_deep f g = absurd (let e = f refl in cc)
 in_order false false long page false true f g = absurd (let e = g refl in cc)
 in_order false false true page false false f g = refl
 in_order false false false page false false f g = refl
-
-pub positive : (n : ℕ) → (n == 0) ≡ false → 0 < n
-positive n e = grind (arith, nat_tests, e)
 
 pub refused_in_order : (k : Encoder) (id : Id) (values : List Tree) (page first token : ℕ) → (page == 0) ≡ false →
     sequence_refusal k (message_value (message.Result id (result_of_sequence values first token))) values (page_values (length values) page (drop first values)) ≡
@@ -62,5 +60,5 @@ refused_in_order k id values page first token p =
     all_deep : (nat_lt most_nested (nesting response) || list_any (λ page. nat_lt most_nested (nesting page + 1)) pages) ≡ list_any is_too_deep values
     all_deep =
         let less = length-drop first values in
-        ap₂ (λ (a b : Bool). a || b) (response_deep id with_token (take first values)) (pages_deep (length values) page (drop first values) (positive page p) (omega arith))
+        ap₂ (λ (a b : Bool). a || b) (response_deep id with_token (take first values)) (pages_deep (length values) page (drop first values) (above_zero page p) (omega arith))
         ∙ parts_any is_too_deep first values

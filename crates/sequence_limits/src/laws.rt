@@ -2,7 +2,7 @@
 
 ghost use Rattle.enumerables.specs.Producer.{all_ended, given_up, page_in, turned, with_sequence};
 ghost use Rattle.enumerables.specs.declared.sequence.Sequence.{Sequence};
-ghost use Rattle.rpc_items.specs.Bodies.{Encoder, body_refusal, or_else, sequence_refusal};
+ghost use Rattle.rpc_items.specs.Bodies.{Encoder, body_refusal, sequence_refusal};
 ghost use Rattle.rpc_items.specs.Fitting.{Fits};
 ghost use Rattle.rpc_items.specs.Pages.{page_values};
 ghost use Rattle.rpc_items.specs.Saying.{result_of_sequence};
@@ -11,6 +11,7 @@ ghost use Rattle.rpc_items.specs.declared.messages.Message.TheVariants.{Result};
 ghost use Rattle.sequence_limits.specs.Fitting.{PagesFit};
 ghost use Rattle.sequence_limits.specs.Limits.{pages_refusal, values_refusal};
 ghost use Rattle.std.specs.Prelude.{◌≡◌, ◌==◌, List, None, Some, drop, false, length, ℕ};
+ghost use Rattle.wire_base.specs.Options.{or_else};
 ghost use Rattle.wire_base.specs.Tree.{Tree};
 ghost use Rattle.wire_base.specs.declared.text.Id.{Id};
 

@@ -1,9 +1,9 @@
 //! What is tested before a sequence is answered.
 
-ghost use Rattle.enumerables.specs.Replies.{Checks};
 ghost use Rattle.message_body.specs.Replies.{Writes};
 ghost use Rattle.message_body.specs.Written.{encoder, is_json};
 ghost use Rattle.rpc_items.specs.Bodies.{most_nested};
+ghost use Rattle.rpc_items.specs.Checks.{Checks};
 ghost use Rattle.rpc_items.specs.Pages.{page_value, page_values};
 ghost use Rattle.sequence_limits.specs.Limits.{most_nested_value, pages_refusal, values_refusal};
 ghost use Rattle.std.specs.List.{list_any};

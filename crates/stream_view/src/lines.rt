@@ -1,6 +1,6 @@
 //! The lines of a view, each as a text of its own.
 
-ghost use Rattle.std.specs.Prelude.{◌≡◌, ◌≤◌, ◌++◌, length, OnOk, IfOk};
+ghost use Rattle.std.specs.Prelude.{◌≡◌, ◌++◌, OnOk, IfOk};
 ghost use Rattle.json.specs.Print.{quoted};
 ghost use Rattle.stream_view.specs.Lines.{code_name, origin_word, window_word, payload_words, frame_line, hello_line, rest_line, refused_line};
 

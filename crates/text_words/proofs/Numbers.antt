@@ -8,7 +8,8 @@ use Rattle.std.proofs.lemmas.Str.Parse.{IsNumeralModel, numerals_by_value, tells
 use Rattle.std.proofs.lemmas.Fmt.{decimal_nonempty, first_decimal, decimal_digit, decimal-digits_value, digits_decimal, digits_value-decimal}
 use Rattle.std.proofs.lemmas.Bool.Decides.{nat_tests}
 use Rattle.text_words.proofs.ByteTests.{bytes_eq-same, same_from_bytes_eq}
-use Rattle.text_words.specs.Bytes.{plus, zero_digit}
+use Rattle.rpc_items.specs.Meanings.{zero_digit}
+use Rattle.text_words.specs.Bytes.{plus}
 use Rattle.text_words.specs.Written.{number_bound}
 use Rattle.text_words.specs.Reading.{decimal_base, number_in, has_other_front}
 

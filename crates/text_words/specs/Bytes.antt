@@ -15,9 +15,6 @@ plus = 43
 abbrev pub minus : ℕ
 minus = 45
 
-abbrev pub zero_digit : ℕ
-zero_digit = 48
-
 abbrev pub capital_a : ℕ
 capital_a = 65
 

@@ -11,10 +11,11 @@ use Rattle.message_body.specs.declared.encoding.Encoding.{Encoding}
 use Rattle.message_body.specs.declared.encoding.Encoding.TheVariants as encoding
 use Rattle.message_framing.specs.declared.framing.Framing.{Framing}
 use Rattle.message_framing.specs.declared.framing.Framing.TheVariants as framing
+use Rattle.rpc_items.specs.Meanings.{zero_digit}
 use Rattle.rpc_items.specs.declared.calls.Expect.{Expect}
 use Rattle.rpc_items.specs.declared.calls.Expect.TheVariants as expect
 use Rattle.text_words.specs.declared.channel_name.ChannelName.{ChannelName}
-use Rattle.text_words.specs.Bytes.{space, plus, minus, zero_digit, capital_a, capital_z}
+use Rattle.text_words.specs.Bytes.{space, plus, minus, capital_a, capital_z}
 use Rattle.mux_items.specs.Limits.{nonce_size}
 use Rattle.text_words.specs.Written.{is_number, hyphen, bytes_word, everything, framing_word, encoding_word, expect_word, owner_word, Signed}
 

@@ -35,6 +35,15 @@ fn push_tally(out: &mut Vec<u8>, tally: &Tally) -> Result<(), OutOfMemory>
     push_decimal(out, tally.handed)
 }
 
+/// Appends the front of a line: its side, and its channel as that side names it.
+fn push_front(out: &mut Vec<u8>, side: Side, key: ChannelKey) -> Result<(), OutOfMemory>
+    ensures { OnOk result (out.new.items ≡ out.old.items ++ (side_word side ++ codes " " ++ channel_text side key)) }
+{
+    push_side(out, side)?;
+    push_text(out, " ")?;
+    push_channel(out, side, key)
+}
+
 /// Appends the line of a channel, where something is known of it.
 fn push_channel_line(
     out: &mut Vec<u8>,
@@ -47,9 +56,7 @@ fn push_channel_line(
     match tally {
         None => Ok(()),
         Some(tally) => {
-            push_side(out, side)?;
-            push_text(out, " ")?;
-            push_channel(out, side, key)?;
+            push_front(out, side, key)?;
             push_text(out, " ")?;
             push_tally(out, &tally)?;
             push_line_feed(out)
@@ -66,9 +73,7 @@ fn push_request(
 ) -> Result<(), OutOfMemory>
     ensures { OnOk result (out.new.items ≡ out.old.items ++ (side_word side ++ codes " " ++ channel_text side key ++ codes " request " ++ decimal number)) }
 {
-    push_side(out, side)?;
-    push_text(out, " ")?;
-    push_channel(out, side, key)?;
+    push_front(out, side, key)?;
     push_text(out, " request ")?;
     push_decimal(out, number)
 }
@@ -136,9 +141,7 @@ fn push_handle_front(
 ) -> Result<(), OutOfMemory>
     ensures { OnOk result (out.new.items ≡ out.old.items ++ (side_word side ++ codes " " ++ channel_text side key ++ codes " handle " ++ owner_word handle.own ++ codes " " ++ decimal handle.number)) }
 {
-    push_side(out, side)?;
-    push_text(out, " ")?;
-    push_channel(out, side, key)?;
+    push_front(out, side, key)?;
     push_text(out, " handle ")?;
     push_owner(out, handle.own)?;
     push_text(out, " ")?;

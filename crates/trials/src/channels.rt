@@ -1,7 +1,6 @@
 //! Channels as both ends name them.
 
-use mux_items::ChannelKey;
-use mux_run::Side;
+use duo_world::{ChannelKey, Side};
 
 /// A channel, the side that offered it, and the windows of its offer and of its acceptance, which is 0 until then.
 #[derive(Clone, Copy)]

@@ -1,7 +1,7 @@
 //! Frames in flight, read from their bytes by the layouts of the three versions.
 
 use crate::channels::Channel;
-use mux_run::Side;
+use duo_world::Side;
 use std::alloc::Global;
 use wire_base::{OutOfMemory, Version};
 

@@ -3,9 +3,7 @@
 use crate::channels::Channel;
 use crate::flight::Emitted;
 use crate::sums::{Seen, direction_of};
-use endpoint::Endpoint;
-use mux_items::ChannelKey;
-use mux_run::Side;
+use duo_world::{ChannelKey, Endpoint, Side};
 use std::alloc::Global;
 use std::process::Abort;
 use std::test::Fail;

@@ -2,8 +2,7 @@
 
 use crate::channels::Channel;
 use crate::draws::Draws;
-use endpoint_run::{Call, Side, Step};
-use mux_items::ChannelKey;
+use duo_world::{Call, ChannelKey, MuxCall, Side, Step};
 use std::alloc::Global;
 use wire_base::{Blob, OutOfMemory, Text};
 
@@ -40,26 +39,26 @@ fn content(alloc: Global, size: u32) -> Result<Blob, OutOfMemory> {
     Blob::from_bytes(alloc, BYTES.get(..size as usize).unwrap_or(BYTES))
 }
 
-fn offer(alloc: Global, window: u32) -> Result<mux_items::Call, OutOfMemory> {
-    Ok(mux_items::Call::Offer(Text::from_str(alloc, "trial")?, window))
+fn offer(alloc: Global, window: u32) -> Result<MuxCall, OutOfMemory> {
+    Ok(MuxCall::Offer(Text::from_str(alloc, "trial")?, window))
 }
 
-fn write(alloc: Global, key: ChannelKey, size: u32) -> Result<mux_items::Call, OutOfMemory> {
-    Ok(mux_items::Call::Write(key, content(alloc, size)?))
+fn write(alloc: Global, key: ChannelKey, size: u32) -> Result<MuxCall, OutOfMemory> {
+    Ok(MuxCall::Write(key, content(alloc, size)?))
 }
 
-fn step_with(side: Side, call: mux_items::Call) -> Step {
+fn step_with(side: Side, call: MuxCall) -> Step {
     Step::Call(side, Call::Mux(call))
 }
 
 pub fn step_of(alloc: Global, side: Side, makes: Move) -> Result<Step, OutOfMemory> {
     Ok(match makes {
         Move::Offer(window) => step_with(side, offer(alloc, window)?),
-        Move::Accept(key, window) => step_with(side, mux_items::Call::Accept(key, window)),
+        Move::Accept(key, window) => step_with(side, MuxCall::Accept(key, window)),
         Move::Write(key, size) => step_with(side, write(alloc, key, size)?),
-        Move::Read(key, max) => step_with(side, mux_items::Call::Read(key, max)),
-        Move::Complete(key) => step_with(side, mux_items::Call::Complete(key)),
-        Move::Terminate(key) => step_with(side, mux_items::Call::Terminate(key)),
+        Move::Read(key, max) => step_with(side, MuxCall::Read(key, max)),
+        Move::Complete(key) => step_with(side, MuxCall::Complete(key)),
+        Move::Terminate(key) => step_with(side, MuxCall::Terminate(key)),
         Move::Deliver(count) => Step::Deliver(side, count),
     })
 }

@@ -2,9 +2,7 @@
 
 use crate::channels::Channel;
 use crate::flight::{Brings, SeenFrame};
-use endpoint::Endpoint;
-use mux_items::{ChannelView, Phase, Tally};
-use mux_run::Side;
+use duo_world::{ChannelView, Endpoint, Phase, Side, Tally};
 use wire_base::EndState;
 
 /// An end, its side, and those of its frames that the other end doesn't have whole.

@@ -5,9 +5,7 @@ use crate::draws::Draws;
 use crate::flight::{Emitted, SeenFrame};
 use crate::moves::{ALL, Move, draw_move, step_of};
 use crate::sums::{Direction, Seen, direction_of};
-use duo_world::Duo;
-use endpoint_run::{DuoAnswer, Reply, Side, Step};
-use mux_items::ChannelKey;
+use duo_world::{ChannelKey, Duo, DuoAnswer, Reply, Side, Step};
 use std::alloc::Global;
 use wire_base::{EndState, OutOfMemory, Version};
 

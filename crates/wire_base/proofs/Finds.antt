@@ -2,7 +2,8 @@
 use Rattle.std.proofs.Common.{◌≡◌, ℕ, List, [], ◌∷◌, ◌++◌, Some, None, Option, refl, sym, if◌then◌else◌}
 use Rattle.std.specs.Str.{bytes_eq}
 use Rattle.wire_base.specs.Tree.{Tree}
-use Rattle.wire_base.specs.Find.{last_of, or_else}
+use Rattle.wire_base.specs.Find.{last_of}
+use Rattle.wire_base.specs.Options.{or_else}
 
 -- of three, the first that is there
 or_else_assoc : (a b c : Option Tree) → or_else (or_else a b) c ≡ or_else a (or_else b c)
@@ -10,8 +11,8 @@ or_else_assoc (Some t) b c = refl
 or_else_assoc None b c = refl
 
 -- with no second
-or_else_none : (a : Option Tree) → or_else a None ≡ a
-or_else_none (Some t) = refl
+pub or_else_none : {A : Type 0} (a : Option A) → or_else a None ≡ a
+or_else_none (Some x) = refl
 or_else_none None = refl
 
 -- the last pair counts before all others

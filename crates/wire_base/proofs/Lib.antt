@@ -3,6 +3,7 @@ pub mod Utf8
 pub mod Back
 pub mod Walks
 pub mod Moved
+pub mod Places
 pub mod HeadLemmas
 pub mod ShortestLemmas
 pub mod AppendsLemmas

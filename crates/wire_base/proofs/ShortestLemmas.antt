@@ -91,21 +91,21 @@ is_bin n lt = bin-cases (λ s. IsHead (token.Bin n) s) n
     (after_16 0xc5 (λ m. token.Bin m) n (λ s. refl))
     (after_32 0xc6 (λ m. token.Bin m) n (λ s. refl) lt)
 
-is_array : (n : ℕ) → n < 2 ^ 32 → IsHead (token.Array n) (array_head n)
+pub is_array : (n : ℕ) → n < 2 ^ 32 → IsHead (token.Array n) (array_head n)
 unfolding lettered
 is_array n lt = array-cases (λ s. IsHead (token.Array n) s) n
     (λ lt. grind (arith, le-ltb, lt-ltb))
     (after_16 0xdc (λ m. token.Array m) n (λ s. refl))
     (after_32 0xdd (λ m. token.Array m) n (λ s. refl) lt)
 
-is_map : (n : ℕ) → n < 2 ^ 32 → IsHead (token.Map n) (map_head n)
+pub is_map : (n : ℕ) → n < 2 ^ 32 → IsHead (token.Map n) (map_head n)
 unfolding lettered
 is_map n lt = map-cases (λ s. IsHead (token.Map n) s) n
     (λ lt. grind (arith, le-ltb, lt-ltb))
     (after_16 0xde (λ m. token.Map m) n (λ s. refl))
     (after_32 0xdf (λ m. token.Map m) n (λ s. refl) lt)
 
-is_whole : (z : ℤ) → IsWhole z → IsHead (token.Whole z) (whole_text z)
+pub is_whole : (z : ℤ) → IsWhole z → IsHead (token.Whole z) (whole_text z)
 is_whole (pos n) range = is_unsigned n (omega (arith, ints, range.1))
 is_whole (negsuc k) range = is_negative k (omega (arith, ints, range.0))
 

@@ -5,6 +5,7 @@ use Rattle.std.specs.Int.{Width, byte_len, from_be_bytes}
 use Rattle.std.proofs.lemmas.Bool.{le-ltb, lt-ltb}
 use Rattle.std.proofs.lemmas.List.{take_at, drop_at}
 use Rattle.wire_base.specs.Head.{IsHead}
+use Rattle.wire_base.specs.declared.limits.TheConstants.{COUNT_LIMIT}
 use Rattle.wire_base.specs.declared.token.TokenHead.{TokenHead}
 use Rattle.wire_base.specs.declared.token.HeadStep.TheVariants as step
 use Rattle.wire_base.specs.declared.reason.Reason.{Reason}
@@ -30,8 +31,8 @@ unfolding inner_at
 inner_at-again sort make reason h x y b rest is says makes =
     ap (λ r. inside (length (b ++ rest)) reason r) (token_at-again sort make reason h x y b rest is says makes)
 
-pub count_in-again : (n : ℕ) → n < 0x8000000000000000 → count_in (pos n) ≡ Some n
-count_in-again n below = rw (lt-ltb n 0x8000000000000000 below) refl
+pub count_in-again : (n : ℕ) → n < COUNT_LIMIT → count_in (pos n) ≡ Some n
+count_in-again n below = rw (lt-ltb n COUNT_LIMIT below) refl
 
 pub field-again : {B : Type 0} (w : Width) (make : ℕ → Option B) (reason : Reason) (y : B) (b rest : List ℕ) → length b ≡ byte_len w → make (from_be_bytes w b) ≡ Some y → field_at w make reason (b ++ rest) ≡ Ok (y, rest)
 unfolding field_at

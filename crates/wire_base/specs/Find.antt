@@ -1,12 +1,8 @@
 -- The last of a key's values.
 use Rattle.std.specs.Prelude.{ℕ, List, [], ◌∷◌, Option, Some, None, if◌then◌else◌}
 use Rattle.std.specs.Str.{bytes_eq}
+use Rattle.wire_base.specs.Options.{or_else}
 use Rattle.wire_base.specs.Tree.{Tree}
-
--- the first, or where there is none the second
-abbrev pub or_else : Option Tree → Option Tree → Option Tree
-or_else (Some t) o = Some t
-or_else None o = o
 
 -- the value of the last pair with this key
 abbrev pub last_of : List ℕ → List (List ℕ × Tree) → Option Tree

@@ -3,6 +3,9 @@ pub mod Codes
 pub mod View
 pub mod Falls
 pub mod Find
+pub mod Lists
+pub mod Options
+pub mod States
 pub mod Values
 pub mod Whole
 pub mod Head

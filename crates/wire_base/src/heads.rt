@@ -1,8 +1,8 @@
 //! Reading the head of a MessagePack token.
 
 ghost use Rattle.std.specs.Prelude.{◌≡◌, ◌<◌, ◌≤◌, length, take, nat_lt, Some, None, if◌then◌else◌};
-ghost use Rattle.std.specs.Int.{w8, w16, w32, w64, from_be_bytes, byte_len, cast_signed};
-ghost use Rattle.wire_base.specs.Head.{IsWithin, IsWithinTail, head_of, read_kind, kind_of, lettered};
+ghost use Rattle.std.specs.Int.{w8, w16, w32, w64, from_be_bytes, cast_signed};
+ghost use Rattle.wire_base.specs.Head.{IsWithin, IsWithinTail, head_of, read_kind, lettered};
 
 use crate::reason::Reason;
 use crate::token::{HeadStep, TokenHead};

@@ -32,8 +32,8 @@ pub use heads::head;
 pub use in_memory::{Calls, MemSink, MemSource};
 pub use laws::{heads_stay, shortest_heads_are_heads};
 pub use limits::{
-    COUNT_LIMIT, FRAME_BOUND, MAX_FED, MAX_NESTING, MAX_PAYLOAD, MAX_PLACE, MAX_PLAIN_PAYLOAD,
-    PLAIN_ID_LIMIT,
+    COUNT_LIMIT, FRAME_BOUND, MAX_BODY, MAX_FED, MAX_NESTING, MAX_PAYLOAD, MAX_PLACE,
+    MAX_PLAIN_PAYLOAD, PLAIN_ID_LIMIT,
 };
 pub use out_of_memory::OutOfMemory;
 pub use place::Place;

@@ -23,3 +23,6 @@ pub const MAX_FED: u64 = 0x4000_0000_0000_0000;
 
 /// Arrays and maps stand in one another at most so deep.
 pub const MAX_NESTING: u32 = 127;
+
+/// A message's body has at most so many bytes.
+pub const MAX_BODY: u32 = 16_777_216;

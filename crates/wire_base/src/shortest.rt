@@ -1,6 +1,6 @@
 //! Shortest heads of MessagePack tokens, appended to bytes.
 
-ghost use Rattle.std.specs.Prelude.{◌≡◌, ◌++◌, ◌∷◌, [], OnOk, OnErr, pos, ◌<ℤ◌};
+ghost use Rattle.std.specs.Prelude.{◌≡◌, ◌++◌, ◌∷◌, OnOk, OnErr, pos, ◌<ℤ◌};
 ghost use Rattle.std.specs.Int.{w16, w32, w64, to_be_bytes};
 ghost use Rattle.wire_base.specs.Shortest.{unsigned_text, whole_text, str_head, bin_head, array_head, map_head};
 

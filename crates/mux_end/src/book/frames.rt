@@ -2,7 +2,7 @@
 
 ghost use Rattle.frame_text.specs.Frames.{fits, fits_id};
 ghost use Rattle.mux_end.specs.Heeded.{IsInRange};
-ghost use Rattle.mux_end.specs.Keeps.{event_by, heard_book, heard_event, heard_frames, is_full, item_in, later_book, later_in, offer_in};
+ghost use Rattle.mux_end.specs.Keeps.{event_by, heard_book, heard_event, heard_frames, item_in, later_book, later_in, offer_in};
 ghost use Rattle.mux_end.specs.Known.{Takes, frames_after};
 ghost use Rattle.mux_items.specs.Bodies.{ChannelTerminated, body_of, frame_on, frame_texts};
 ghost use Rattle.mux_state.specs.Book.{due_of_book, event_found, found, frame_in, next_book};

@@ -2,10 +2,10 @@
 use Rattle.std.specs.Prelude.{set}
 use Rattle.std.proofs.Common.{◌∙◌, ap, List, arith, length, ◌<◌, ◌-◌}
 use Rattle.wire_base.specs.Tree.{Tree}
+use Rattle.wire_base.proofs.Places.{changed_is_set}
 use Rattle.call_table.specs.declared.entry.Entry.{Entry}
 use Rattle.call_table.specs.declared.entry.Kept.TheVariants.{Forgotten}
 use Rattle.call_table.specs.Table.{TableValue, forgetting, with_forgotten}
-use Rattle.call_table.proofs.Keeping.{changed_is_set}
 use Rattle.call_table.proofs.table.CallTable.clear.Goals as goal
 
 pub returns : goal.returns

@@ -1,8 +1,8 @@
 -- The write is that of the request.
 use Rattle.std.proofs.Common.{◌∙◌, ap, List, arith, length, ◌<◌, ◌-◌}
+use Rattle.wire_base.proofs.Places.{changed_is_set}
 use Rattle.call_table.specs.declared.entry.Entry.{Entry}
 use Rattle.call_table.specs.Table.{TableValue, cancelling, with_cancelled}
-use Rattle.call_table.proofs.Keeping.{changed_is_set}
 use Rattle.call_table.proofs.table.CallTable.mark_cancelled.Goals as goal
 
 pub returns : goal.returns

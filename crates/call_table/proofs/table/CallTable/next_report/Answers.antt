@@ -2,11 +2,12 @@
 use Rattle.std.specs.Prelude.{set, slice_get}
 use Rattle.std.proofs.Common.{◌≡◌, ◌∙◌, sym, ap, List, arith, length, ◌<◌, ◌-◌}
 use Rattle.wire_base.specs.Tree.{Tree}
+use Rattle.wire_base.proofs.Places.{changed_is_set}
 use Rattle.rpc_items.specs.Drawn.{with_number}
+use Rattle.rpc_items.proofs.Numbered.{numbered_at}
 use Rattle.call_table.specs.declared.entry.Entry.{Entry}
 use Rattle.call_table.specs.Table.{TableValue, left_at_entry, left_in, taking, with_taken}
-use Rattle.call_table.proofs.Answering.{numbered_at}
-use Rattle.call_table.proofs.Keeping.{changed_is_set, got_is_some}
+use Rattle.call_table.proofs.Keeping.{got_is_some}
 use Rattle.call_table.proofs.table.CallTable.next_report.Goals as goal
 
 pub returns-clause-answer : goal.returns-clause-answer

@@ -2,9 +2,9 @@
 use Rattle.std.specs.Prelude.{set}
 use Rattle.std.proofs.Common.{◌∙◌, ap, List, arith, length, ◌<◌, ◌-◌}
 use Rattle.wire_base.specs.Tree.{Tree}
+use Rattle.wire_base.proofs.Places.{changed_is_set}
 use Rattle.call_table.specs.declared.entry.Entry.{Entry}
 use Rattle.call_table.specs.Table.{TableValue, reporting, with_report}
-use Rattle.call_table.proofs.Keeping.{changed_is_set}
 use Rattle.call_table.proofs.table.CallTable.push_report.Goals as goal
 
 pub returns-clause-ok : goal.returns-clause-ok

@@ -1,29 +1,25 @@
 use Rattle.std.specs.Prelude.{Some, None}
-use Rattle.std.proofs.Common.{◌<◌, length, refl, set, subst, sym}
-use Rattle.endpoint.specs.Value.{EndpointValue, value_in}
+use Rattle.std.proofs.Common.{set}
+use Rattle.endpoint.specs.Value.{value_in}
 use Rattle.endpoint.proofs.Applying.{event_answers, refusal_answers, seen, slice_of, waits_answers}
-use Rattle.endpoint.proofs.Sending.{at_set, one_set}
+use Rattle.endpoint.proofs.Sending.{at_set, one_changed}
 use Rattle.endpoint.proofs.endpoint.Endpoint.apply_message.Goals as goal
 
 pub invariant_of-self : goal.invariant_of-self
 invariant_of-self c =
-    let x = c.index_mut.result.now in
-    one_set c.self.inside.connections.items c.args.place x (record x { end = c.step.new.self }) (subst (λ (e : EndpointValue). c.args.place < length e.connections) (sym c.self.view_is) c.requires) c.index_mut.ensures.value refl c.self.invariant
+    one_changed c.self.inside.mux c.self.inside.connections.items c.self.inside.stopped c.args.self.now c.args.place c.index_mut.result.now c.step.new.self c.self.view_is c.requires c.index_mut.ensures.value c.self.invariant
 
 pub invariant_of-self-in-Short : goal.invariant_of-self-in-Short
 invariant_of-self-in-Short c =
-    let x = c.index_mut.result.now in
-    one_set c.self.inside.connections.items c.args.place x (record x { end = c.step.new.self }) (subst (λ (e : EndpointValue). c.args.place < length e.connections) (sym c.self.view_is) c.requires) c.index_mut.ensures.value refl c.self.invariant
+    one_changed c.self.inside.mux c.self.inside.connections.items c.self.inside.stopped c.args.self.now c.args.place c.index_mut.result.now c.step.new.self c.self.view_is c.requires c.index_mut.ensures.value c.self.invariant
 
 pub invariant_of-self-in-Ended : goal.invariant_of-self-in-Ended
 invariant_of-self-in-Ended c =
-    let x = c.index_mut.result.now in
-    one_set c.self.inside.connections.items c.args.place x (record x { end = c.step.new.self }) (subst (λ (e : EndpointValue). c.args.place < length e.connections) (sym c.self.view_is) c.requires) c.index_mut.ensures.value refl c.self.invariant
+    one_changed c.self.inside.mux c.self.inside.connections.items c.self.inside.stopped c.args.self.now c.args.place c.index_mut.result.now c.step.new.self c.self.view_is c.requires c.index_mut.ensures.value c.self.invariant
 
 pub invariant_of-self-in-Stopped : goal.invariant_of-self-in-Stopped
 invariant_of-self-in-Stopped c =
-    let x = c.index_mut.result.now in
-    one_set c.self.inside.connections.items c.args.place x (record x { end = c.step.new.self }) (subst (λ (e : EndpointValue). c.args.place < length e.connections) (sym c.self.view_is) c.requires) c.index_mut.ensures.value refl c.self.invariant
+    one_changed c.self.inside.mux c.self.inside.connections.items c.self.inside.stopped c.args.self.now c.args.place c.index_mut.result.now c.step.new.self c.self.view_is c.requires c.index_mut.ensures.value c.self.invariant
 
 pub returns-in-Event-clause-answers : goal.returns-in-Event-clause-answers
 returns-in-Event-clause-answers c = λ attached items at rest here s runs room.

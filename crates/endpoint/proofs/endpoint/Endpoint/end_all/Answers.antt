@@ -1,9 +1,9 @@
 use Rattle.std.proofs.Common.{◌≡◌, ap, arith, get_or, subst, sym, ◌∙◌}
 use Rattle.std.proofs.lemmas.List.{with_items_is}
-use Rattle.mux_end.proofs.Places.{changes_more}
+use Rattle.wire_base.proofs.Places.{changes_more, changed_all}
 use Rattle.endpoint.specs.Changes.{each_ended, ended_for}
 use Rattle.endpoint.specs.Value.{AreOfOne, EndpointValue}
-use Rattle.endpoint.proofs.Places.{changed_all, each_keys, ending, keys_of, one_by_keys}
+use Rattle.endpoint.proofs.Places.{each_keys, ending, keys_of, one_by_keys}
 use Rattle.endpoint.proofs.endpoint.Endpoint.end_all.Goals as goal
 
 pub loop-attached-preserved : goal.loop-attached-preserved

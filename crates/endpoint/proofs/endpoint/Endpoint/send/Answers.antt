@@ -1,10 +1,10 @@
-use Rattle.std.proofs.Common.{◌<◌, length, set, refl, sym, ◌∙◌, ap, subst}
+use Rattle.std.proofs.Common.{◌<◌, length, set, sym, ◌∙◌, ap, subst}
 use Rattle.mux_items.specs.declared.call.Call.TheVariants as call
 use Rattle.mux_items.specs.Calls.{called}
 use Rattle.endpoint.specs.Changes.{Moves}
 use Rattle.endpoint.specs.Sending.{SendsAt}
 use Rattle.endpoint.specs.Value.{EndpointValue, value_in}
-use Rattle.endpoint.proofs.Sending.{empty, one_set, sends_all, sends_nothing, took_all}
+use Rattle.endpoint.proofs.Sending.{empty, one_changed, sends_all, sends_nothing, took_all}
 use Rattle.endpoint.proofs.endpoint.Endpoint.send.Goals as goal
 
 pub returns-then-count-eq0-clause-sends : goal.returns-then-count-eq0-clause-sends
@@ -19,10 +19,7 @@ returns-then-count-eq0-clause-sends c =
 
 pub invariant_of-self-2 : goal.invariant_of-self-2
 invariant_of-self-2 c =
-    let xs = c.self.inside.connections.items in
-    let x = c.index_mut-attached.result.now in
-    let within : c.args.place < length xs = subst (λ (e : EndpointValue). c.args.place < length e.connections) (sym c.self.view_is) c.requires in
-    one_set xs c.args.place x (record x { end = c.took.new.self }) within c.index_mut-attached.ensures.value refl c.self.invariant
+    one_changed c.self.inside.mux c.self.inside.connections.items c.self.inside.stopped c.args.self.now c.args.place c.index_mut-attached.result.now c.took.new.self c.self.view_is c.requires c.index_mut-attached.ensures.value c.self.invariant
 
 pub returns-clause-sends : goal.returns-clause-sends
 returns-clause-sends c =

@@ -7,10 +7,11 @@ use Rattle.endpoint_items.specs.Layers.{mux_of, rpc_of}
 use Rattle.endpoint_items.proofs.Attached.{attached_open}
 use Rattle.endpoint_items.proofs.Usable.{running_none}
 use Rattle.wire_base.specs.declared.state.Cause.TheVariants as cause
+use Rattle.wire_base.specs.States.{is_running_state}
 use Rattle.mux_items.specs.Items.{End, ended}
 use Rattle.endpoint.specs.declared.attached.Attached.{Attached}
 use Rattle.endpoint.specs.declared.step.EndStep.{EndStep}
-use Rattle.endpoint.specs.Steps.{FromConnections, runs}
+use Rattle.endpoint.specs.Steps.{FromConnections}
 use Rattle.endpoint.specs.Value.{EndpointValue}
 use Rattle.endpoint.proofs.Frames.{held, held_attached}
 use Rattle.endpoint.proofs.InTurn.{message_came, message_none, message_spent, place_stands}
@@ -24,7 +25,7 @@ returns-in_default-clause-answers c = λ attached items at rest here s.
     let x = c.index.result.now in
     let p = place_stands now c.self.inside.connections.items c.args.place x attached items at rest (ap (λ (e : EndpointValue). e.connections) c.self.view_is) c.self.invariant c.index.ensures c.requires here s in
     let off : is_attached (rpc_of v x.key items) ≡ false = unattached (Some x.end) (rpc_of v x.key items) (terms_of x.key items) (consumed x.key items) (rest_of v x.key items) p.1
-    (ap runs (sym c.state.ensures) ∙ not_running c.state.result c.in_default.not-Running) in
+    (ap is_running_state (sym c.state.ensures) ∙ not_running c.state.result c.in_default.not-Running) in
     let off' : is_attached (rpc_of v attached.key items) ≡ false = subst (λ (a : Attached). is_attached (rpc_of v a.key items) ≡ false) p.0 off in
     subst (λ found. FromConnections now now items at rest found None) (sym (message_none v attached.key items off')) refl
 

@@ -1,7 +1,7 @@
 -- Each sequence is as it is with that page asked for.
 use Rattle.std.proofs.Common.{sym, ◌∙◌, ap, arith}
+use Rattle.wire_base.proofs.Places.{changes_more}
 use Rattle.enumerables.specs.Consumer.{asking}
-use Rattle.enumerables.proofs.Places.{changes_more}
 use Rattle.enumerables.proofs.consumer.Consumer.ask.Goals as goal
 
 pub loop-followed-preserved : goal.loop-followed-preserved

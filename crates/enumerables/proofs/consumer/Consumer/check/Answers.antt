@@ -3,7 +3,7 @@ use Rattle.std.specs.Prelude.{IfOk}
 use Rattle.std.proofs.Common.{◌≡◌, subst, Option, Some}
 use Rattle.wire_base.specs.declared.refusal.Refusal.{Refusal}
 use Rattle.wire_base.specs.declared.text.Id.{Id}
-use Rattle.enumerables.specs.Replies.{Checks}
+use Rattle.rpc_items.specs.Checks.{Checks}
 use Rattle.enumerables.proofs.Reading.{follows_as, tokens_as}
 use Rattle.enumerables.proofs.consumer.Consumer.check.Goals as goal
 

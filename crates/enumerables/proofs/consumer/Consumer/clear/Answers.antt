@@ -1,7 +1,7 @@
 -- Each sequence is as it is without that page.
 use Rattle.std.proofs.Common.{sym, ◌∙◌, ap, arith}
+use Rattle.wire_base.proofs.Places.{changes_more}
 use Rattle.enumerables.specs.Consumer.{rested}
-use Rattle.enumerables.proofs.Places.{changes_more}
 use Rattle.enumerables.proofs.consumer.Consumer.clear.Goals as goal
 
 pub loop-followed-preserved : goal.loop-followed-preserved

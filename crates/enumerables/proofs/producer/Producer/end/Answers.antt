@@ -1,8 +1,9 @@
 -- The write is that of the sequence.
 use Rattle.std.proofs.Common.{◌∙◌, ap, arith, length, ◌<◌, ◌-◌}
 use Rattle.std.specs.Prelude.{set}
-use Rattle.enumerables.specs.Producer.{changed_at, ending}
-use Rattle.enumerables.proofs.Places.{changed_is_set}
+use Rattle.wire_base.specs.Lists.{changed_at}
+use Rattle.wire_base.proofs.Places.{changed_is_set}
+use Rattle.enumerables.specs.Producer.{ending}
 use Rattle.enumerables.proofs.producer.Producer.end.Goals as goal
 
 pub returns : goal.returns

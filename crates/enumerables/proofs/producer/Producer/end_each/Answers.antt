@@ -1,7 +1,7 @@
 -- Each sequence is ended.
 use Rattle.std.proofs.Common.{sym, ◌∙◌, ap, arith}
+use Rattle.wire_base.proofs.Places.{changes_more}
 use Rattle.enumerables.specs.Producer.{ending}
-use Rattle.enumerables.proofs.Places.{changes_more}
 use Rattle.enumerables.proofs.producer.Producer.end_each.Goals as goal
 
 pub loop-sequence-preserved : goal.loop-sequence-preserved

@@ -1,9 +1,9 @@
 -- Each handle is ended.
 use Rattle.std.proofs.Common.{◌≡◌, refl, sym, ◌∙◌, ap, arith, subst}
 use Rattle.std.proofs.lemmas.List.{with_items_is}
+use Rattle.wire_base.proofs.Places.{changed_all, changes_more}
 use Rattle.marshalled_handles.specs.Holder.{AreRising, all_ended, ending}
 use Rattle.marshalled_handles.proofs.Finding.{map_rises}
-use Rattle.marshalled_handles.proofs.Places.{changed_all, changes_more}
 use Rattle.marshalled_handles.proofs.holder.Holder.end_each.Goals as goal
 
 pub loop-handle-preserved : goal.loop-handle-preserved

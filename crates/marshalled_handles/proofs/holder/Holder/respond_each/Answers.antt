@@ -1,9 +1,9 @@
 -- Each handle is as it is with that response.
 use Rattle.std.proofs.Common.{◌≡◌, sym, ◌∙◌, ap, arith, subst}
 use Rattle.std.proofs.lemmas.List.{with_items_is}
+use Rattle.wire_base.proofs.Places.{changed_all, changes_more}
 use Rattle.marshalled_handles.specs.Holder.{AreRising, responded, responding}
 use Rattle.marshalled_handles.proofs.Finding.{map_rises, responding_keeps}
-use Rattle.marshalled_handles.proofs.Places.{changed_all, changes_more}
 use Rattle.marshalled_handles.proofs.holder.Holder.respond_each.Goals as goal
 
 pub loop-handle-preserved : goal.loop-handle-preserved

@@ -1,7 +1,7 @@
 -- What the handles tell is what the items tell.
 use Rattle.std.proofs.Common.{subst, Option}
 use Rattle.wire_base.specs.declared.refusal.Refusal.{Refusal}
-use Rattle.marshalled_handles.specs.Replies.{Checks}
+use Rattle.rpc_items.specs.Checks.{Checks}
 use Rattle.marshalled_handles.proofs.Reading.{room_as}
 use Rattle.marshalled_handles.proofs.owner.Owner.check.Goals as goal
 

@@ -1,7 +1,7 @@
 -- The room is for as many objects as there are.
 use Rattle.std.proofs.Common.{◌∙◌, ℕ, subst}
+use Rattle.rpc_items.specs.Checks.{Checks}
 use Rattle.marshalled_handles.specs.Owner.{room_refusal}
-use Rattle.marshalled_handles.specs.Replies.{Checks}
 use Rattle.marshalled_handles.proofs.Carried.{objects_counted}
 use Rattle.marshalled_handles.proofs.owner.Owner.check_arguments.Goals as goal
 

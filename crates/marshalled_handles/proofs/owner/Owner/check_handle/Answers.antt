@@ -2,7 +2,8 @@
 use Rattle.std.proofs.Common.{◌∙◌, ap, subst, Option}
 use Rattle.wire_base.specs.declared.refusal.Refusal.{Refusal}
 use Rattle.rpc_items.specs.Keys.{own_key}
-use Rattle.marshalled_handles.specs.Replies.{Checks, seen_refusal}
+use Rattle.rpc_items.specs.Checks.{Checks}
+use Rattle.marshalled_handles.specs.Replies.{seen_refusal}
 use Rattle.marshalled_handles.proofs.Reading.{made_as, refused_as}
 use Rattle.marshalled_handles.proofs.owner.Owner.check_handle.Goals as goal
 

@@ -1,7 +1,7 @@
 use Rattle.std.proofs.Common.{sym, ◌∙◌, ap, arith}
+use Rattle.wire_base.proofs.Places.{changes_more}
 use Rattle.mux_state.specs.Book.{changed_entry}
 use Rattle.mux_state.specs.Next.{ended_state}
-use Rattle.mux_end.proofs.Places.{changes_more}
 use Rattle.mux_end.proofs.channels.Channels.on_end.Goals as goal
 
 pub loop-known-preserved : goal.loop-known-preserved

@@ -7,7 +7,7 @@ use Rattle.message_body.specs.Written.{encoder}
 use Rattle.rpc_items.specs.declared.messages.Message.{Message}
 use Rattle.rpc_items.specs.declared.messages.Message.TheVariants as message
 use Rattle.rpc_items.specs.Bodies.{body_refusal}
-use Rattle.rpc_items.specs.Sayable.{HasNamedId}
+use Rattle.rpc_items.specs.Told.{HasNamedId}
 use Rattle.rpc_items.specs.Saying.{result_of_sequence}
 use Rattle.rpc_items.specs.Writing.{message_value}
 use Rattle.rpc_end.specs.Texts.{message_text}

@@ -5,10 +5,11 @@ use Rattle.std.proofs.lemmas.Result.{err_from_is_err_and}
 use Rattle.wire_base.specs.Tree.{Tree}
 use Rattle.wire_base.specs.declared.refusal.Refusal.{Refusal}
 use Rattle.wire_base.specs.declared.text.Id.{Id}
+use Rattle.wire_base.specs.Options.{or_else}
 use Rattle.message_body.specs.Replies.{Writes}
 use Rattle.message_body.specs.Written.{encoder}
 use Rattle.rpc_items.specs.declared.calls.Answer.TheVariants as answer
-use Rattle.rpc_items.specs.Bodies.{body_refusal, or_else}
+use Rattle.rpc_items.specs.Bodies.{body_refusal}
 use Rattle.rpc_items.specs.Pages.{page_values}
 use Rattle.rpc_items.specs.Writing.{message_value}
 use Rattle.sequence_limits.specs.Limits.{pages_refusal, values_refusal}

@@ -1,9 +1,9 @@
 -- A request for a page is a message of the code: its number can be drawn.
 use Rattle.std.proofs.Common.{◌≡◌, ◌≤◌, ◌∙◌, ℕ, ap, subst}
+use Rattle.wire_base.specs.Options.{or_else}
 use Rattle.call_table.specs.Replies.{full_refusal}
 use Rattle.enumerables.specs.Consumer.{following_refusal, found}
 use Rattle.rpc_items.specs.Arguments.{most_drawn}
-use Rattle.rpc_items.specs.Bodies.{or_else}
 use Rattle.rpc_items.specs.Saying.{turn_message}
 use Rattle.rpc_end.specs.Calls.{next_number, page_asked}
 use Rattle.rpc_end.proofs.Texts.{asked_so, at_once, both_none, drawn_named, made_text}

@@ -1,4 +1,4 @@
--- What calls answer.
+-- What a test answers.
 use Rattle.std.specs.Prelude.{◌≡◌, Option, Some, None, Result, Ok, Err}
 use Rattle.wire_base.specs.declared.refusal.Refusal.{Refusal}
 

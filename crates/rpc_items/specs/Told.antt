@@ -1,4 +1,4 @@
--- What laws say of messages that are written as values.
+-- Messages that a value can tell.
 use Rattle.std.specs.Prelude.{◌≡◌, true, Option, Some, None}
 use Rattle.wire_base.specs.declared.text.Id.{Id}
 use Rattle.rpc_items.specs.declared.messages.Message.{Message}
@@ -20,8 +20,8 @@ HasNamedId (message.Result id value) = IsNamed id
 HasNamedId (message.Error id code text more) = IsNamedIf id
 
 -- a message whose id and code a value can tell
-abbrev pub IsSayable : Message → Type 0
-IsSayable (Request id method params) = IsNamed id
-IsSayable (Notification method params) = Unit {0}
-IsSayable (message.Result id value) = IsNamed id
-IsSayable (message.Error id code text more) = IsNamedIf id × (is_id_number code ≡ true)
+abbrev pub CanBeTold : Message → Type 0
+CanBeTold (Request id method params) = IsNamed id
+CanBeTold (Notification method params) = Unit {0}
+CanBeTold (message.Result id value) = IsNamed id
+CanBeTold (message.Error id code text more) = IsNamedIf id × (is_id_number code ≡ true)

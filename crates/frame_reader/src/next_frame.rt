@@ -4,7 +4,7 @@ use wire_base::{Frame, Place, Reason};
 
 /// What a reader of frames answers.
 #[derive(Debug, Drop)]
-pub enum Next {
+pub enum NextFrame {
     /// The next frame, and the place of its first byte.
     Frame(Place, Frame),
     /// The bytes that are left are less than a frame: too few bytes to tell.
