@@ -2,6 +2,7 @@
 
 use crate::tells::{readers, told};
 use message_framing::{Framing, MessageReader};
+use row_text::parted;
 use std::alloc::Global;
 use std::process::Abort;
 use std::test::Fail;
@@ -10,14 +11,9 @@ fn is_told(rt: &impl Abort, told: &str, wanted: &str, row: &str) {
     assert_eq!(rt; told, wanted, "at {row}");
 }
 
-/// The case of a row, and what is to be told of it, behind a bar.
-fn halves(row: &str) -> (&str, &str) {
-    let (case, wanted) = row.split_once('|').unwrap_or((row, ""));
-    (case.trim(), wanted.trim())
-}
-
+/// A row is a case, and what is to be told of it, behind a bar.
 fn holds_once(rt: &impl Abort, alloc: Global, row: &str) -> Result<(), Fail> {
-    let (case, wanted) = halves(row);
+    let (case, wanted) = parted(row);
     is_told(rt, told(alloc, case)?.as_str(), wanted, row);
     Ok(())
 }
@@ -38,7 +34,7 @@ fn lives_once(
     reader: &mut MessageReader,
     row: &str,
 ) -> Result<(), Fail> {
-    let (case, wanted) = halves(row);
+    let (case, wanted) = parted(row);
     is_told(
         rt,
         readers::happens(alloc, reader, case)?.as_str(),

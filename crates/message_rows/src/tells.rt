@@ -6,7 +6,7 @@ mod messages;
 mod methods;
 pub mod readers;
 
-use crate::words::{first, word};
+use row_text::{first, word};
 use std::alloc::Global;
 use std::test::Fail;
 

@@ -2,24 +2,10 @@
 
 use message_body::{Encoding, Message, Params};
 use message_framing::Framing;
+use row_text::{byte, first, push_escaped, size};
 use std::alloc::Global;
 use std::test::Fail;
 use wire_base::{Blob, Datum, DatumList, Id, Node, Text, Whole};
-
-pub fn word(alloc: Global, word: &str) -> Result<String, Fail> {
-    Ok(String::from_str(alloc, word)?)
-}
-
-/// The first word, and the others.
-pub fn first(words: &str) -> (&str, &str) {
-    let (word, words) = words.split_once(' ').unwrap_or((words, ""));
-    (word, words.trim())
-}
-
-/// A number that is no more than fits, and 0 for any other.
-pub fn size(word: &str) -> u32 {
-    word.parse::<u32>().unwrap_or(0)
-}
 
 pub fn encoding(word: &str) -> Encoding {
     match word {
@@ -32,14 +18,6 @@ pub fn framing(word: &str) -> Framing {
     match word {
         "header" => Framing::Header,
         _ => Framing::Length,
-    }
-}
-
-fn digit(letter: u8) -> u8 {
-    match letter {
-        b'0'..=b'9' => letter - b'0',
-        b'a'..=b'f' => letter - b'a' + 10,
-        _ => 0,
     }
 }
 
@@ -56,7 +34,7 @@ fn control(letter: u8) -> u8 {
 /// The byte behind a backslash, and the letters behind it.
 fn escaped(letters: &[u8]) -> Option<(u8, &[u8])> {
     match letters {
-        [b'x', high, low, rest @ ..] => Some((digit(*high) << 4 | digit(*low), rest)),
+        [b'x', high, low, rest @ ..] => Some((byte(*high, *low), rest)),
         [letter, rest @ ..] => Some((control(*letter), rest)),
         [] => None,
     }
@@ -84,18 +62,13 @@ pub fn bytes_of(alloc: Global, text: &str) -> Result<Vec<u8>, Fail> {
     Ok(bytes)
 }
 
-fn push_hex(alloc: Global, text: &mut String, byte: u8) -> Result<(), Fail> {
-    text.push_str(format!(in alloc; "\\x{byte:02x}")?.as_str())?;
-    Ok(())
-}
-
-fn push_byte(alloc: Global, text: &mut String, byte: u8) -> Result<(), Fail> {
+fn push_byte(text: &mut String, byte: u8) -> Result<(), Fail> {
     match byte {
         b'\r' => Ok(text.push_str("\\r")?),
         b'\n' => Ok(text.push_str("\\n")?),
         b'\\' => Ok(text.push_str("\\\\")?),
         b' '..=b'~' => Ok(text.push(char::from(byte))?),
-        byte => push_hex(alloc, text, byte),
+        byte => push_escaped(text, byte),
     }
 }
 
@@ -103,7 +76,7 @@ fn push_byte(alloc: Global, text: &mut String, byte: u8) -> Result<(), Fail> {
 pub fn text_of(alloc: Global, bytes: &[u8]) -> Result<String, Fail> {
     let mut text = String::new(alloc);
     for byte in bytes {
-        push_byte(alloc, &mut text, *byte)?;
+        push_byte(&mut text, *byte)?;
     }
     Ok(text)
 }

@@ -1,13 +1,10 @@
 //! What an end answers, as text. A channel is told as `own` or `peer` and its id.
 
 use mux_end::{ChannelKey, ChannelView, MuxEvent, MuxStep, Tally};
+use row_text::{push_hex, word};
 use std::alloc::Global;
 use std::test::Fail;
 use wire_base::{CallFault, EndState};
-
-pub fn word(alloc: Global, word: &str) -> Result<String, Fail> {
-    Ok(String::from_str(alloc, word)?)
-}
 
 pub fn of_fault(alloc: Global, fault: CallFault) -> Result<String, Fail> {
     match fault {
@@ -38,7 +35,7 @@ pub fn of_drawn(alloc: Global, answer: Result<ChannelKey, CallFault>) -> Result<
 fn of_bytes(alloc: Global, bytes: &[u8]) -> Result<String, Fail> {
     let mut text = word(alloc, "bytes ")?;
     for byte in bytes {
-        write!(text, "{byte:02x}")?;
+        push_hex(&mut text, *byte)?;
     }
     Ok(text)
 }

@@ -1,9 +1,8 @@
 //! Many channels in one row: the row names the first and the last id, and then a window.
 
-use crate::answers::word;
 use crate::rows::{comes, goes_out, offers};
-use crate::words::{first, number};
 use mux_end::MuxEnd;
+use row_text::{first, size, word};
 use std::alloc::Global;
 use std::test::Fail;
 
@@ -70,7 +69,7 @@ fn all_happen(
 pub fn crowds(alloc: Global, end: &mut MuxEnd, name: &str, words: &str) -> Result<String, Fail> {
     let (from, words) = first(words);
     let (to, window) = first(words);
-    let ids = (number(from), number(to));
-    let all = all_happen(alloc, end, name, ids, number(window))?;
+    let ids = (size(from), size(to));
+    let all = all_happen(alloc, end, name, ids, size(window))?;
     word(alloc, if all { "ok" } else { "not all" })
 }

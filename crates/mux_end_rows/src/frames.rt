@@ -1,7 +1,7 @@
 //! Frames that are refused, each at its first byte.
 
 use crate::rows::{a_life, a_life_of};
-use crate::words::parted;
+use row_text::parted;
 use std::alloc::Global;
 use std::process::Abort;
 use std::test::Fail;

@@ -1,8 +1,8 @@
 //! Refused calls, each call's refusals in their order.
 
 use crate::rows::{a_life, is_told, offers, start};
-use crate::words::{first, number, parted};
 use mux_end::MuxEnd;
+use row_text::{first, parted, size};
 use std::alloc::Global;
 use std::process::Abort;
 use std::test::Fail;
@@ -11,8 +11,8 @@ use wire_base::Version;
 /// What is answered to an offer with a name of so many bytes, and a window.
 fn offers_long(alloc: Global, end: &mut MuxEnd, words: &str) -> Result<String, Fail> {
     let (length, window) = first(words);
-    let name = "a".repeat(alloc, number(length) as usize)?;
-    offers(alloc, end, name.as_str(), number(window))
+    let name = "a".repeat(alloc, size(length) as usize)?;
+    offers(alloc, end, name.as_str(), size(window))
 }
 
 /// What it is answered at an end that has no channels.

@@ -2,11 +2,11 @@
 
 use crate::answers::{
     of_call, of_drawn, of_fault, of_flag, of_known, of_read, of_state, of_step, of_tally, of_view,
-    word,
 };
 use crate::crowds::crowds;
-use crate::words::{bytes, first, key, number, parted};
+use crate::words::{bytes, key};
 use mux_end::{ChannelKey, MuxEnd};
+use row_text::{first, parted, size, word};
 use std::alloc::Global;
 use std::process::Abort;
 use std::test::Fail;
@@ -31,7 +31,7 @@ fn accept(alloc: Global, end: &mut MuxEnd, key: ChannelKey, window: u32) -> Resu
 
 fn accepts(alloc: Global, end: &mut MuxEnd, words: &str) -> Result<String, Fail> {
     let (channel, window) = first(words);
-    accept(alloc, end, key(channel), number(window))
+    accept(alloc, end, key(channel), size(window))
 }
 
 fn write(alloc: Global, end: &mut MuxEnd, key: ChannelKey, bytes: &[u8]) -> Result<String, Fail> {
@@ -60,7 +60,7 @@ fn read(
 
 fn reads(alloc: Global, end: &mut MuxEnd, words: &str) -> Result<String, Fail> {
     let (channel, max) = first(words);
-    let max = number(max) as usize;
+    let max = size(max) as usize;
     read(alloc, end, key(channel), max, &mut Vec::new(alloc))
 }
 
@@ -138,7 +138,7 @@ fn looks(alloc: Global, end: &MuxEnd, name: &str, words: &str) -> Result<String,
         "ready" => ready(alloc, end),
         "view" => view(alloc, end, key(words)),
         "tally" => tally(alloc, end, key(words)),
-        "known" => known(alloc, end, number(words) as usize),
+        "known" => known(alloc, end, size(words) as usize),
         _ => word(alloc, "no such call"),
     }
 }
@@ -158,7 +158,7 @@ fn hears(alloc: Global, end: &mut MuxEnd, name: &str, words: &str) -> Result<Str
 fn happens(alloc: Global, end: &mut MuxEnd, call: &str) -> Result<String, Fail> {
     let (name, words) = first(call);
     match name {
-        "offer" => offers(alloc, end, "a", number(words)),
+        "offer" => offers(alloc, end, "a", size(words)),
         "accept" => accepts(alloc, end, words),
         "write" => writes(alloc, end, words),
         "read" => reads(alloc, end, words),

@@ -1,6 +1,7 @@
 //! What the words of rows stand for.
 
 use mux_end::ChannelKey;
+use row_text::{count, push_repeated, repeats};
 use std::alloc::Global;
 use std::test::Fail;
 
@@ -22,28 +23,10 @@ fn digits(word: &str) -> &str {
     }
 }
 
-fn digit(letter: u8) -> u8 {
-    match letter {
-        b'0'..=b'9' => letter - b'0',
-        b'a'..=b'f' => letter - b'a' + 10,
-        _ => 0,
-    }
-}
-
-fn push_pairs(bytes: &mut Vec<u8>, digits: &str) -> Result<(), Fail> {
-    for pair in digits.as_bytes().chunks_exact(2) {
-        bytes.push(digit(pair[0]) << 4 | digit(pair[1]))?;
-    }
-    Ok(())
-}
-
 /// A word is digits or a name, or such with a `*` and how many times it stands there.
 fn push_word(bytes: &mut Vec<u8>, word: &str) -> Result<(), Fail> {
-    let (word, count) = word.split_once('*').unwrap_or((word, "1"));
-    for _ in 0..number(count) {
-        push_pairs(bytes, digits(word))?;
-    }
-    Ok(())
+    let (word, times) = repeats(word);
+    push_repeated(bytes, digits(word), times)
 }
 
 /// The bytes of all these words.
@@ -55,27 +38,8 @@ pub fn bytes(alloc: Global, words: &str) -> Result<Vec<u8>, Fail> {
     Ok(bytes)
 }
 
-/// The first word, and the others.
-pub fn first(words: &str) -> (&str, &str) {
-    let (word, words) = words.split_once(' ').unwrap_or((words, ""));
-    (word, words.trim())
-}
-
-/// What stands before the first bar, and behind it.
-pub fn parted(row: &str) -> (&str, &str) {
-    let (front, back) = row.split_once('|').unwrap_or((row, ""));
-    (front.trim(), back.trim())
-}
-
-pub fn number(word: &str) -> u32 {
-    word.parse::<u32>().unwrap_or(0)
-}
-
 fn key_of(id: &str, own: bool) -> ChannelKey {
-    ChannelKey {
-        id: u64::from(number(id)),
-        own,
-    }
+    ChannelKey { id: count(id), own }
 }
 
 /// A channel is `own` or `peer` and its id.

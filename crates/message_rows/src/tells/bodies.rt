@@ -1,7 +1,8 @@
 //! What is told of bodies in both encodings.
 
-use crate::words::{blob, bytes_of, encoding, first, message, nested, reply, size, text_of, word};
+use crate::words::{blob, bytes_of, encoding, message, nested, reply, text_of};
 use message_body::{BodyFault, Encoding, Message, read, write};
+use row_text::{first, size, word};
 use std::alloc::Global;
 use std::test::Fail;
 use wire_base::{CallFault, Datum};

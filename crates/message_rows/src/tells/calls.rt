@@ -4,9 +4,10 @@ ghost use Rattle.rpc_items.specs.Drawn.{arg_list};
 ghost use Rattle.rpc_items.specs.Made.{made_in};
 ghost use Rattle.std.specs.Prelude.{◌≡◌, IfOk, None, length};
 
-use crate::words::{first, size, text_of};
+use crate::words::text_of;
 use call_messages::{object_response, proxy_name, release, request};
 use message_body::{Encoding, write};
+use row_text::{first, size};
 use rpc_items::{Arg, ArgList, Arguments, HandleKey, Lifetime, Message};
 use std::alloc::Global;
 use std::test::Fail;

@@ -1,7 +1,7 @@
 //! What is told of methods, with their parameters in MessagePack.
 
 use crate::tells::messages::value;
-use crate::words::first;
+use row_text::first;
 use rpc_methods::{Params, is_reserved, is_reserved_value, meaning_of};
 use std::alloc::Global;
 use std::test::Fail;

@@ -1,7 +1,8 @@
 //! What readers tell of streams in both framings.
 
-use crate::words::{bytes_of, first, framing, size, text_of, word};
+use crate::words::{bytes_of, framing, text_of};
 use message_framing::{Framing, Front, MessageReader, NextBody, wrap};
+use row_text::{first, size, word};
 use std::alloc::Global;
 use std::test::Fail;
 use wire_base::{Place, Reason};
