@@ -2,13 +2,10 @@
 
 use channel_credit::{Due, TakeFault};
 use mux_items::ChannelView;
+use row_text::word;
 use std::alloc::Global;
 use std::test::Fail;
 use wire_base::{CallFault, Reason, Refusal};
-
-pub fn word(alloc: Global, word: &str) -> Result<String, Fail> {
-    Ok(String::from_str(alloc, word)?)
-}
 
 fn of_refused(alloc: Global, refusal: Refusal) -> Result<String, Fail> {
     Ok(format!(in alloc; "{refusal:?}")?)

@@ -1,38 +1,19 @@
 //! Rows of text, and the channel that lives through them.
 
 use crate::answers::{
-    of_call, of_content, of_fault, of_frame, of_read, of_refusal, of_view, push_due, word,
+    of_call, of_content, of_fault, of_frame, of_read, of_refusal, of_view, push_due,
 };
 use channel_credit::{Channel, Due};
 use mux_items::GREATEST_WINDOW;
+use row_text::{count, first, parted, repeats, size, word};
 use std::alloc::Global;
 use std::process::Abort;
 use std::test::Fail;
 use wire_base::{Refusal, Version};
 
-/// What stands before the first bar, and behind it.
-fn parted(row: &str) -> (&str, &str) {
-    let (front, back) = row.split_once('|').unwrap_or((row, ""));
-    (front.trim(), back.trim())
-}
-
-/// The first word, and the others.
-fn first(words: &str) -> (&str, &str) {
-    let (word, words) = words.split_once(' ').unwrap_or((words, ""));
-    (word, words.trim())
-}
-
-fn number(word: &str) -> u64 {
-    word.parse::<u64>().unwrap_or(0)
-}
-
-fn window(word: &str) -> u32 {
-    word.parse::<u32>().unwrap_or(0)
-}
-
-fn repeated(alloc: Global, piece: &str, count: u64) -> Result<Vec<u8>, Fail> {
+fn repeated(alloc: Global, piece: &str, times: u32) -> Result<Vec<u8>, Fail> {
     let mut bytes = Vec::new(alloc);
-    for _ in 0..count {
+    for _ in 0..times {
         bytes.extend_from_slice(piece.as_bytes())?;
     }
     Ok(bytes)
@@ -40,10 +21,8 @@ fn repeated(alloc: Global, piece: &str, count: u64) -> Result<Vec<u8>, Fail> {
 
 /// The words are the bytes, or a piece with a `*` and how many times it stands there.
 fn bytes(alloc: Global, words: &str) -> Result<Vec<u8>, Fail> {
-    match words.split_once('*') {
-        Some((piece, count)) => repeated(alloc, piece, number(count)),
-        None => Ok(Vec::from_slice(alloc, words.as_bytes())?),
-    }
+    let (piece, times) = repeats(words);
+    repeated(alloc, piece, times)
 }
 
 fn accept(alloc: Global, channel: &mut Channel, window: u32) -> Result<String, Fail> {
@@ -57,7 +36,7 @@ fn accept(alloc: Global, channel: &mut Channel, window: u32) -> Result<String, F
 /// Whether the acceptance is refused where other windows are so many bytes.
 fn accepting(alloc: Global, channel: &Channel, words: &str) -> Result<String, Fail> {
     let (windows, word) = first(words);
-    of_refusal(alloc, channel.accept_refusal(number(windows), window(word)))
+    of_refusal(alloc, channel.accept_refusal(count(windows), size(word)))
 }
 
 fn write(alloc: Global, channel: &mut Channel, bytes: &[u8]) -> Result<String, Fail> {
@@ -121,10 +100,10 @@ fn end(alloc: Global, channel: &mut Channel) -> Result<String, Fail> {
 /// A frame of the peer, or the end of the end.
 fn comes(alloc: Global, channel: &mut Channel, name: &str, words: &str) -> Result<String, Fail> {
     match name {
-        "accepted" => accepted(alloc, channel, number(words)),
+        "accepted" => accepted(alloc, channel, count(words)),
         "content" => content(alloc, channel, bytes(alloc, words)?.as_slice()),
         "completed" => completed(alloc, channel),
-        "processed" => processed(alloc, channel, number(words)),
+        "processed" => processed(alloc, channel, count(words)),
         "terminated" => terminated(alloc, channel),
         "end" => end(alloc, channel),
         _ => word(alloc, "no such call"),
@@ -135,10 +114,10 @@ fn comes(alloc: Global, channel: &mut Channel, name: &str, words: &str) -> Resul
 fn happens(alloc: Global, channel: &mut Channel, call: &str) -> Result<String, Fail> {
     let (name, words) = first(call);
     match name {
-        "accept" => accept(alloc, channel, window(words)),
+        "accept" => accept(alloc, channel, size(words)),
         "accepting" => accepting(alloc, channel, words),
         "write" => write(alloc, channel, bytes(alloc, words)?.as_slice()),
-        "read" => reads(alloc, channel, number(words) as usize),
+        "read" => reads(alloc, channel, count(words) as usize),
         "complete" => complete(alloc, channel),
         "terminate" => terminate(alloc, channel),
         _ => comes(alloc, channel, name, words),

@@ -1,8 +1,8 @@
 //! Frames of a version that is known only as the program runs.
 
-use crate::words::{bytes, first, parted};
 use any_codec::AnyCodec;
 use frame_reader::{FrameReader, NextFrame};
+use row_text::{bytes, first, parted, word};
 use std::alloc::Global;
 use std::process::Abort;
 use std::test::Fail;
@@ -26,10 +26,6 @@ fn feed(reader: &mut Reader, piece: &[u8]) -> bool {
 
 fn next(reader: &mut Reader) -> NextFrame {
     reader.next()
-}
-
-fn word(alloc: Global, word: &str) -> Result<String, Fail> {
-    Ok(String::from_str(alloc, word)?)
 }
 
 fn of_next(alloc: Global, next: &NextFrame) -> Result<String, Fail> {

@@ -2,7 +2,7 @@
 
 use crate::fronts::{Codec, Front, decoded, fits_fixed, push};
 use crate::rows::{are_same, reads, tells};
-use crate::words::{bytes, first, number, parted};
+use row_text::{bytes, count, first, parted};
 use std::alloc::Global;
 use std::process::Abort;
 use std::test::Fail;
@@ -117,8 +117,8 @@ fn is_fit(rt: &impl Abort, fits: bool, wanted: &str, row: &str) {
 
 fn fits_so(rt: &impl Abort, alloc: Global, row: &str) -> Result<(), Fail> {
     let (words, wanted) = parted(row);
-    let (count, id) = first(words);
-    is_fit(rt, fits(alloc, number(count), number(id))?, wanted, row);
+    let (length, id) = first(words);
+    is_fit(rt, fits(alloc, count(length), count(id))?, wanted, row);
     Ok(())
 }
 

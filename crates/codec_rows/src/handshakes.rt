@@ -2,8 +2,8 @@
 
 use crate::fronts::Front;
 use crate::rows::{are_same, tells, tells_once};
-use crate::words::bytes;
 use mux_handshake::hello;
+use row_text::bytes;
 use std::alloc::Global;
 use std::process::Abort;
 use std::test::Fail;

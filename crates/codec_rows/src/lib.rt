@@ -16,5 +16,3 @@ mod pack;
 mod rows;
 #[cfg(test)]
 mod views;
-#[cfg(test)]
-mod words;

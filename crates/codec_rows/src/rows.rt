@@ -1,7 +1,7 @@
 //! Rows of bytes with what stands at their front.
 
 use crate::fronts::{Codec, Front, decoded, push, told};
-use crate::words::{bytes, parted, push_words};
+use row_text::{bytes, parted, push_bytes};
 use std::alloc::Global;
 use std::process::Abort;
 use std::test::Fail;
@@ -51,7 +51,7 @@ pub fn tells_once(rt: &impl Abort, alloc: Global, front: &Front, row: &str) -> R
     let (more, wanted) = parted(row);
     let mut all = bytes(alloc, known)?;
     let count = all.len();
-    push_words(&mut all, more)?;
+    push_bytes(&mut all, more)?;
     is_told_from(rt, alloc, front, all.as_slice(), (count, wanted))
 }
 

@@ -1,7 +1,7 @@
 //! Worked captures with their views.
 
 use crate::rows::are_same;
-use crate::words::{bytes, first};
+use row_text::{bytes, first};
 use std::alloc::Global;
 use std::process::Abort;
 use std::test::Fail;
