@@ -1,7 +1,8 @@
 //! What an end answers, as text. A channel is told by the letter of the side that offered it and its id.
 
 use endpoint::{ChannelKey, ChannelView, EndEvent, EndStep, MuxEvent, Reply, Tally};
-use row_words::{of_cause, of_outcome, of_value, word};
+use row_text::{push_escaped, word};
+use row_words::{of_cause, of_outcome, of_value};
 use std::alloc::Global;
 use std::test::Fail;
 
@@ -26,11 +27,10 @@ fn of_bytes(alloc: Global, bytes: &[u8]) -> Result<String, Fail> {
 /// Printable characters as they are, but the backslash, and each other byte by two digits behind `\x`.
 fn push_byte(text: &mut String, byte: u8) -> Result<(), Fail> {
     match byte {
-        b'\\' => write!(text, "\\x{byte:02x}")?,
-        b' '..=b'~' => text.push(char::from(byte))?,
-        _ => write!(text, "\\x{byte:02x}")?,
+        b'\\' => push_escaped(text, byte),
+        b' '..=b'~' => Ok(text.push(char::from(byte))?),
+        _ => push_escaped(text, byte),
     }
-    Ok(())
 }
 
 fn push_output(text: &mut String, bytes: &[u8]) -> Result<(), Fail> {

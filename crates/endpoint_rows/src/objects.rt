@@ -1,6 +1,7 @@
 //! Objects that are passed by handle.
 
 use crate::rows::{WIDE, a_life};
+use row_text::parted;
 use std::alloc::Global;
 use std::process::Abort;
 use std::test::Fail;
@@ -156,7 +157,7 @@ const ASKED: &str = "
 
 /// A says the message of a row, and B has adopted these handles then.
 fn adoption(alloc: Global, row: &str) -> Result<String, Fail> {
-    let (message, wanted) = row.split_once('|').unwrap_or((row, ""));
+    let (message, wanted) = parted(row);
     Ok(format!(in alloc; "A says A1 {message} | ok\nB takes-in | ok\nB adopted A1 | {wanted}")?)
 }
 

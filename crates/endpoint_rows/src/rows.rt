@@ -1,9 +1,10 @@
 //! Rows of text, and two ends that live through them.
 
 use crate::answers::{of_key, of_numbers, of_output, of_reply, of_step, of_tally, of_view};
-use crate::words::{first, key, offers, on_channel};
+use crate::words::{key, offers, on_channel};
 use endpoint::{Call, ChannelKey, Endpoint};
-use row_words::{count, handle_of, of_life, of_state, size, word};
+use row_text::{count, first, parted, size, word};
+use row_words::{handle_of, of_life, of_state};
 use std::alloc::Global;
 use std::process::Abort;
 use std::test::Fail;
@@ -256,9 +257,9 @@ fn lives_once(
     b: &mut Endpoint,
     row: &str,
 ) -> Result<(), Fail> {
-    let (call, wanted) = row.split_once('|').unwrap_or((row, ""));
-    let told = told(alloc, a, b, call.trim())?;
-    is_told(rt, told.as_str(), wanted.trim(), row);
+    let (call, wanted) = parted(row);
+    let told = told(alloc, a, b, call)?;
+    is_told(rt, told.as_str(), wanted, row);
     Ok(())
 }
 

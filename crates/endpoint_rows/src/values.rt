@@ -1,7 +1,8 @@
 //! The answers that words stand for.
 
 use endpoint::Answer;
-use row_words::{count, number, size, value, whole};
+use row_text::{count, first, number, size};
+use row_words::{value, whole};
 use std::alloc::Global;
 use std::test::Fail;
 use wire_base::DatumList;
@@ -17,10 +18,10 @@ fn numbers(alloc: Global, last: i64) -> Result<DatumList, Fail> {
 
 /// The numbers from 1 to the first word's, in pages of the second's, where those of the third go with the result.
 fn in_pages(alloc: Global, words: &str) -> Result<Answer, Fail> {
-    let (last, sizes) = words.split_once(' ').unwrap_or((words, ""));
-    let (page, first) = sizes.split_once(' ').unwrap_or((sizes, ""));
+    let (last, sizes) = first(words);
+    let (page, early) = first(sizes);
     let values = numbers(alloc, number(last))?;
-    Ok(Answer::Sequence(values, size(page), size(first)))
+    Ok(Answer::Sequence(values, size(page), size(early)))
 }
 
 /// The answer that words stand for: `sequence` with three numbers, `object` with its number, or a value.

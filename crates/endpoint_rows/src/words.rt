@@ -3,16 +3,11 @@
 use crate::answers::other;
 use crate::values::answer_of;
 use endpoint::{Answer, Call, ChannelKey, Encoding, Expect, Framing, MuxCall, Terms};
-use row_words::{call_of, count, handle_of, id_of, number, size, value};
+use row_text::{count, first, number, size};
+use row_words::{call_of, handle_of, id_of, value};
 use std::alloc::Global;
 use std::test::Fail;
 use wire_base::{Blob, Text};
-
-/// The first word, and the others.
-pub fn first(words: &str) -> (&str, &str) {
-    let (word, words) = words.split_once(' ').unwrap_or((words, ""));
-    (word, words.trim())
-}
 
 /// A channel is the letter of the side that offered it, and its id.
 pub fn key(side: &str, word: &str) -> ChannelKey {

@@ -1,15 +1,11 @@
 //! What an end answers and what comes to it, as text.
 
 use crate::value_text::of_value;
+use row_text::word;
 use rpc_items::{HandleKey, Outcome, Params, RpcEvent, Target};
 use std::alloc::Global;
 use std::test::Fail;
 use wire_base::{Cause, EndState, Id, Text};
-
-/// This text alone.
-pub fn word(alloc: Global, word: &str) -> Result<String, Fail> {
-    Ok(String::from_str(alloc, word)?)
-}
 
 /// A refusal is told by its number and its place, and every other cause by its name.
 pub fn of_cause(alloc: Global, cause: Cause) -> Result<String, Fail> {

@@ -1,6 +1,7 @@
 //! The calls that words stand for.
 
-use crate::values::{count, value};
+use crate::values::value;
+use row_text::{count, first};
 use rpc_items::{Arg, ArgList, Arguments, Lifetime};
 use std::alloc::Global;
 use std::test::Fail;
@@ -54,7 +55,7 @@ fn arguments(alloc: Global, words: &str) -> Result<Arguments, Fail> {
 /// The method that the first word names, and the arguments that the others stand for: none, `NAME=VALUE`, or some in order,
 /// each `progress`, an object as `call:7` or `explicit:7`, a handle of the peer as `handed:1`, or a value.
 pub fn call_of(alloc: Global, words: &str) -> Result<(Text, Arguments), Fail> {
-    let (method, words) = words.split_once(' ').unwrap_or((words, ""));
+    let (method, words) = first(words);
     let args = arguments(alloc, words)?;
     Ok((Text::from_str(alloc, method)?, args))
 }

@@ -1,6 +1,6 @@
 //! Values, as text.
 
-use crate::answers::word;
+use row_text::word;
 use std::alloc::Global;
 use std::test::Fail;
 use wire_base::{Datum, DatumList, Node, PairList, Text};

@@ -1,28 +1,14 @@
 //! The numbers, values, ids and handles that words stand for.
 
+use row_text::{count, first, number};
 use rpc_items::HandleKey;
 use std::alloc::Global;
 use std::test::Fail;
 use wire_base::{Blob, Datum, DatumList, Id, Node, PairList, Text, Whole};
 
-/// The number that a word writes, and 0 for any other word.
-pub fn number(word: &str) -> i64 {
-    word.trim().parse::<i64>().unwrap_or(0)
-}
-
-/// A number from 0 up.
-pub fn count(word: &str) -> u64 {
-    number(word).unsigned_abs()
-}
-
-/// A number that is no more than fits, and 0 for any other.
-pub fn size(word: &str) -> u32 {
-    u32::try_from(number(word)).unwrap_or(0)
-}
-
 /// A handle by its number and the side that made it: `own` or `peer`.
 pub fn handle_of(words: &str) -> HandleKey {
-    let (side, word) = words.split_once(' ').unwrap_or((words, ""));
+    let (side, word) = first(words);
     HandleKey {
         number: count(word),
         own: side == "own",

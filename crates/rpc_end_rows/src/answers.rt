@@ -1,6 +1,7 @@
 //! What an end answers, as text.
 
-use row_words::{of_cause, of_event, of_outcome, of_value, word};
+use row_text::word;
+use row_words::{of_cause, of_event, of_outcome, of_value};
 use rpc_end::{Look, RpcStep};
 use std::alloc::Global;
 use std::test::Fail;

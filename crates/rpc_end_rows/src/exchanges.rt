@@ -1,9 +1,9 @@
 //! Whole exchanges: what an editor says to a language server, and calls between two ends.
 
 use crate::pieces::{comes, split};
-use crate::rows::{self, a_life_in, framed, is_sent, is_told, parts, start, take_all};
+use crate::rows::{self, a_life_in, framed, is_sent, is_told, start, take_all};
 use crate::words::happens;
-use row_words::size;
+use row_text::{parted, size};
 use rpc_end::{Encoding, Framing, RpcEnd};
 use std::alloc::Global;
 use std::process::Abort;
@@ -160,8 +160,8 @@ fn says_to(
     to: &mut RpcEnd,
     row: &str,
 ) -> Result<(), Fail> {
-    let (call, others) = parts(row);
-    let (wanted, heard) = parts(others);
+    let (call, others) = parted(row);
+    let (wanted, heard) = parted(others);
     is_answered(rt, alloc, from, call, wanted)?;
     passes(rt, alloc, from, to, heard)
 }

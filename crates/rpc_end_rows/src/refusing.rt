@@ -1,6 +1,7 @@
 //! What is refused of a peer's bytes, each at its place.
 
-use crate::rows::{comes, framed, is_told, parts, start};
+use crate::rows::{comes, framed, is_told, start};
+use row_text::parted;
 use rpc_end::{Encoding, Framing, RpcEnd};
 use std::alloc::Global;
 use std::process::Abort;
@@ -85,7 +86,7 @@ fn a_header_without_an_end_is_refused(rt: HostRuntime) -> Result<(), Fail> {
 }
 
 fn body_is_refused(rt: &impl Abort, alloc: Global, row: &str) -> Result<(), Fail> {
-    let (body, wanted) = parts(row);
+    let (body, wanted) = parted(row);
     let bytes = framed(alloc, Framing::Length, body)?;
     are_refused(rt, alloc, (Framing::Length, Encoding::Json), &bytes, wanted)
 }

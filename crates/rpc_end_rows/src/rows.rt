@@ -1,6 +1,7 @@
 //! Rows of text, and the end that lives through them.
 
 use crate::words::{feeds, happens, steps};
+use row_text::parted;
 use rpc_end::{Encoding, Framing, RpcEnd};
 use std::alloc::Global;
 use std::process::Abort;
@@ -145,12 +146,6 @@ fn are_sent(
     Ok(())
 }
 
-/// The parts of a row before and behind its first bar.
-pub fn parts(row: &str) -> (&str, &str) {
-    let (part, others) = row.split_once('|').unwrap_or((row, ""));
-    (part.trim(), others.trim())
-}
-
 /// A row is a call, its answer, and the bodies that are sent then, between bars.
 fn lives_once(
     rt: &impl Abort,
@@ -159,8 +154,8 @@ fn lives_once(
     end: &mut RpcEnd,
     row: &str,
 ) -> Result<(), Fail> {
-    let (call, others) = parts(row);
-    let (wanted, bodies) = parts(others);
+    let (call, others) = parted(row);
+    let (wanted, bodies) = parted(others);
     is_answered(rt, alloc, framing, end, (call, wanted))?;
     are_sent(rt, alloc, framing, end, bodies, row)
 }

@@ -2,16 +2,12 @@
 //! that nothing that it promises is carried along by the others.
 
 use crate::answers::{of_call, of_drawn, of_look, of_number, of_report, of_step, of_whole};
-use row_words::{call_of, count, handle_of, id_of, number, of_life, of_state, size, value, word};
+use row_text::{count, first, number, size, word};
+use row_words::{call_of, handle_of, id_of, of_life, of_state, value};
 use rpc_end::{Answer, Arguments, Expect, RpcEnd, RpcStep};
 use std::alloc::Global;
 use std::test::Fail;
 use wire_base::{Cause, Datum, DatumList, EndState, Id, OutOfMemory, Text};
-
-/// The first word, and the others.
-fn first(words: &str) -> (&str, &str) {
-    words.split_once(' ').unwrap_or((words, ""))
-}
 
 fn request(
     alloc: Global,
@@ -256,7 +252,6 @@ fn pages_turn(alloc: Global, end: &mut RpcEnd, name: &str, words: &str) -> Resul
 /// What this call answers.
 pub fn happens(alloc: Global, end: &mut RpcEnd, call: &str) -> Result<String, Fail> {
     let (name, words) = first(call);
-    let words = words.trim();
     match name {
         "asks" => asks(alloc, end, words, Expect::Plain),
         "tells" => tells(alloc, end, words),

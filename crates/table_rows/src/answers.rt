@@ -1,6 +1,6 @@
 //! What the tables answer, as text.
 
-use row_words::word;
+use row_text::word;
 use std::alloc::Global;
 use std::test::Fail;
 use wire_base::{CallFault, OutOfMemory, Refusal};

@@ -2,9 +2,9 @@
 
 use crate::answers::of_fault;
 use crate::rows::{Table, a_life};
-use crate::values::first;
 use message_body::Encoding;
-use row_words::{size, value, whole, word};
+use row_text::{first, size, word};
+use row_words::{value, whole};
 use sequence_limits::{check_pages, check_values};
 use std::alloc::Global;
 use std::test::Fail;

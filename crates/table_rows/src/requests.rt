@@ -2,9 +2,9 @@
 
 use crate::answers::{of_check, of_fault, of_flag, of_number, of_refusal};
 use crate::rows::{Table, a_life};
-use crate::values::first;
 use call_table::{CallTable, Expect, Heard, Look, Outcome, Settled};
-use row_words::{count, id_of, number, of_outcome, of_value, whole, word};
+use row_text::{count, first, number, word};
+use row_words::{id_of, of_outcome, of_value, whole};
 use std::alloc::Global;
 use std::test::Fail;
 use wire_base::{CallFault, Datum, Id, OutOfMemory, Refusal};

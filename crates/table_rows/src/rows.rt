@@ -1,6 +1,6 @@
 //! Rows of text, and the table that lives through them.
 
-use row_words::word;
+use row_text::{parted, word};
 use std::alloc::Global;
 use std::process::Abort;
 use std::test::Fail;
@@ -37,9 +37,9 @@ fn lives_once<T: Table>(
     table: &mut T,
     row: &str,
 ) -> Result<(), Fail> {
-    let (call, wanted) = row.split_once('|').unwrap_or((row, ""));
-    let told = told(alloc, table, call.trim())?;
-    is_told(rt, told.as_str(), wanted.trim(), row);
+    let (call, wanted) = parted(row);
+    let told = told(alloc, table, call)?;
+    is_told(rt, told.as_str(), wanted, row);
     Ok(())
 }
 

@@ -2,9 +2,10 @@
 
 use crate::answers::{of_check, of_done, of_number, of_refusal};
 use crate::rows::{Table, a_life};
-use crate::values::{count_if_any, first};
+use crate::values::count_if_any;
 use enumerables::{Consumer, Producer, page_value, sequence_value};
-use row_words::{count, id_of, number, of_value, size, whole, word};
+use row_text::{count, first, number, size, word};
+use row_words::{id_of, of_value, whole};
 use rpc_items::{Expect, Outcome};
 use std::alloc::Global;
 use std::test::Fail;

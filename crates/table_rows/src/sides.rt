@@ -3,9 +3,10 @@
 
 use crate::answers::{of_check, of_done, of_flag, of_number};
 use crate::rows::Table;
-use crate::values::{arguments, count_if_any, first, id_if_any, named, object};
+use crate::values::{arguments, count_if_any, id_if_any, named, object};
 use marshalled_handles::{Holder, Offered, Owner, offered_in, on_release, standing};
-use row_words::{count, handle_of, id_of, of_life, word};
+use row_text::{count, first, word};
+use row_words::{handle_of, id_of, of_life};
 use std::alloc::Global;
 use std::test::Fail;
 use wire_base::{Datum, Id};

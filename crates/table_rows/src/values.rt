@@ -1,15 +1,11 @@
 //! What words stand for that only tables are asked: objects, and the arguments that pass them or their handles.
 
-use row_words::{count, id_of, number, whole};
+use row_text::{count, first, number};
+use row_words::{id_of, whole};
 use rpc_items::{Arg, ArgList, Lifetime, Params};
 use std::alloc::Global;
 use std::test::Fail;
 use wire_base::{Datum, Id, Node, PairList, Text};
-
-/// The first word, and the others.
-pub fn first(words: &str) -> (&str, &str) {
-    words.split_once(' ').unwrap_or((words, ""))
-}
 
 /// The number that a word writes, where there is one.
 pub fn count_if_any(word: &str) -> Option<u64> {
