@@ -51,7 +51,7 @@ pub fn tells_once(rt: &impl Abort, alloc: Global, front: &Front, row: &str) -> R
     let (more, wanted) = parted(row);
     let mut all = bytes(alloc, known)?;
     let count = all.len();
-    push_bytes(&mut all, more)?;
+    push_bytes(alloc, &mut all, more)?;
     is_told_from(rt, alloc, front, all.as_slice(), (count, wanted))
 }
 

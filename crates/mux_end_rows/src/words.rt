@@ -24,16 +24,16 @@ fn digits(word: &str) -> &str {
 }
 
 /// A word is digits or a name, or such with a `*` and how many times it stands there.
-fn push_word(bytes: &mut Vec<u8>, word: &str) -> Result<(), Fail> {
+fn push_word(alloc: Global, bytes: &mut Vec<u8>, word: &str) -> Result<(), Fail> {
     let (word, times) = repeats(word);
-    push_repeated(bytes, digits(word), times)
+    push_repeated(alloc, bytes, digits(word), times)
 }
 
 /// The bytes of all these words.
 pub fn bytes(alloc: Global, words: &str) -> Result<Vec<u8>, Fail> {
     let mut bytes = Vec::new(alloc);
     for word in words.split_whitespace() {
-        push_word(&mut bytes, word)?;
+        push_word(alloc, &mut bytes, word)?;
     }
     Ok(bytes)
 }

@@ -18,19 +18,31 @@ pub fn byte(high: u8, low: u8) -> u8 {
     digit(high) << 4 | digit(low)
 }
 
-fn push_digits(bytes: &mut Vec<u8>, digits: &str) -> Result<(), Fail> {
+/// The bytes that digits stand for.
+fn piece(alloc: Global, digits: &str) -> Result<Vec<u8>, Fail> {
+    let mut bytes = Vec::new(alloc);
     for pair in digits.as_bytes().chunks_exact(2) {
         bytes.push(byte(pair[0], pair[1]))?;
+    }
+    Ok(bytes)
+}
+
+fn push_times(bytes: &mut Vec<u8>, piece: &[u8], times: u32) -> Result<(), Fail> {
+    for _ in 0..times {
+        bytes.extend_from_slice(piece)?;
     }
     Ok(())
 }
 
-/// Adds the bytes of these digits so many times.
-pub fn push_repeated(bytes: &mut Vec<u8>, digits: &str, times: u32) -> Result<(), Fail> {
-    for _ in 0..times {
-        push_digits(bytes, digits)?;
-    }
-    Ok(())
+/// Adds the bytes of these digits so many times. Digits are read once: some stand there millions of times.
+pub fn push_repeated(
+    alloc: Global,
+    bytes: &mut Vec<u8>,
+    digits: &str,
+    times: u32,
+) -> Result<(), Fail> {
+    let piece = piece(alloc, digits)?;
+    push_times(bytes, piece.as_slice(), times)
 }
 
 /// What stands before a `*`, and how many times it stands there, or once where there is no `*`.
@@ -39,15 +51,15 @@ pub fn repeats(word: &str) -> (&str, u32) {
     (piece, size(times))
 }
 
-fn push_word(bytes: &mut Vec<u8>, word: &str) -> Result<(), Fail> {
+fn push_word(alloc: Global, bytes: &mut Vec<u8>, word: &str) -> Result<(), Fail> {
     let (digits, times) = repeats(word);
-    push_repeated(bytes, digits, times)
+    push_repeated(alloc, bytes, digits, times)
 }
 
 /// Adds the bytes of all these words: a word is digits, or digits with a `*` and how many times they stand there.
-pub fn push_bytes(bytes: &mut Vec<u8>, words: &str) -> Result<(), Fail> {
+pub fn push_bytes(alloc: Global, bytes: &mut Vec<u8>, words: &str) -> Result<(), Fail> {
     for word in words.split_whitespace() {
-        push_word(bytes, word)?;
+        push_word(alloc, bytes, word)?;
     }
     Ok(())
 }
@@ -55,7 +67,7 @@ pub fn push_bytes(bytes: &mut Vec<u8>, words: &str) -> Result<(), Fail> {
 /// The bytes of all these words: a word is digits, or digits with a `*` and how many times they stand there.
 pub fn bytes(alloc: Global, words: &str) -> Result<Vec<u8>, Fail> {
     let mut bytes = Vec::new(alloc);
-    push_bytes(&mut bytes, words)?;
+    push_bytes(alloc, &mut bytes, words)?;
     Ok(bytes)
 }
 
