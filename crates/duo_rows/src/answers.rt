@@ -1,32 +1,27 @@
 //! What steps answer, and bytes, as text.
 
 use duo_world::{DuoAnswer, EventList, Reply, Tally};
+use row_text::{push_escaped, word};
 use std::alloc::Global;
 use std::test::Fail;
-
-pub fn word(alloc: Global, word: &str) -> Result<String, Fail> {
-    Ok(String::from_str(alloc, word)?)
-}
 
 /// Whether a byte stands for itself: the others tell rows and bytes apart.
 fn is_plain(byte: u8) -> bool {
     byte.is_ascii_graphic() && !matches!(byte, b'\\' | b'|' | b';')
 }
 
-fn tell_byte(alloc: Global, told: &mut String, byte: u8) -> Result<(), Fail> {
+fn tell_byte(told: &mut String, byte: u8) -> Result<(), Fail> {
     if is_plain(byte) {
-        told.push(byte as char)?;
-    } else {
-        told.push_str(format!(in alloc; "\\x{byte:02x}")?.as_str())?;
+        return Ok(told.push(byte as char)?);
     }
-    Ok(())
+    push_escaped(told, byte)
 }
 
 /// Visible characters as they are, other bytes as `\x` and two digits.
 pub fn of_bytes(alloc: Global, bytes: &[u8]) -> Result<String, Fail> {
     let mut told = String::new(alloc);
     for byte in bytes {
-        tell_byte(alloc, &mut told, *byte)?;
+        tell_byte(&mut told, *byte)?;
     }
     Ok(told)
 }

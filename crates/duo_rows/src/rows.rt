@@ -1,8 +1,9 @@
 //! Rows of text, and two joined ends that live through them.
 
-use crate::answers::{of_answer, of_bytes, of_tally, word};
-use crate::steps::{first, key_of, side_of, step_of};
+use crate::answers::{of_answer, of_bytes, of_tally};
+use crate::steps::{key_of, side_of, step_of};
 use duo_world::{Duo, DuoAnswer, Side, Step};
+use row_text::{first, parted, word};
 use std::alloc::Global;
 use std::process::Abort;
 use std::test::Fail;
@@ -84,12 +85,6 @@ fn replies(
     let told = happens(alloc, duo, side, words)?;
     is_told(rt, told.as_str(), wanted, row);
     Ok(())
-}
-
-/// What stands before the first bar, and what is behind it.
-pub fn parted(row: &str) -> (&str, &str) {
-    let (front, rest) = row.split_once('|').unwrap_or((row, ""));
-    (front.trim(), rest.trim())
 }
 
 /// A row is a side with what it does, what that answers, with its events, and the bytes that the side emits, between bars.

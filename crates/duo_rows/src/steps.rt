@@ -4,18 +4,13 @@ use duo_world::{
     Answer, Arguments, Call, ChannelKey, Encoding, Expect, Framing, HandleKey, MuxCall, Side, Step,
     Terms,
 };
+use row_text::{count, first, number, size};
 use std::alloc::Global;
 use std::test::Fail;
 use wire_base::{Blob, Datum, Id, Node, Text, Whole};
 
 /// More than is ever in flight.
 pub const ALL: u64 = 1_000_000;
-
-/// The first word, and the others.
-pub fn first(words: &str) -> (&str, &str) {
-    let (word, words) = words.split_once(' ').unwrap_or((words, ""));
-    (word, words.trim())
-}
 
 pub fn side_of(word: &str) -> Side {
     match word {
@@ -24,18 +19,10 @@ pub fn side_of(word: &str) -> Side {
     }
 }
 
-fn number(word: &str) -> u64 {
-    word.parse::<u64>().unwrap_or(0)
-}
-
-fn size(word: &str) -> u32 {
-    word.parse::<u32>().unwrap_or(0)
-}
-
 /// A channel, all of which A offered, is that letter and an id.
 pub fn key_of(side: Side, word: &str) -> ChannelKey {
     ChannelKey {
-        id: number(word.strip_prefix('A').unwrap_or("")),
+        id: count(word.strip_prefix('A').unwrap_or("")),
         own: side == Side::A,
     }
 }
@@ -95,14 +82,14 @@ fn asks(alloc: Global, key: ChannelKey, method: &str) -> Result<Call, Fail> {
 }
 
 fn id_of(word: &str) -> Id {
-    Id::Number(word.parse::<i64>().unwrap_or(0))
+    Id::Number(number(word))
 }
 
 /// The words are the id of a request, and a number.
 fn answers(key: ChannelKey, words: &str) -> Call {
     let (id, word) = first(words);
     let value = Datum {
-        node: Node::Whole(Whole::from_u64(number(word))),
+        node: Node::Whole(Whole::from_u64(count(word))),
     };
     Call::Respond(key, id_of(id), Answer::Value(value))
 }
@@ -110,7 +97,7 @@ fn answers(key: ChannelKey, words: &str) -> Call {
 /// The words are the id of a request, and an object.
 fn gives(key: ChannelKey, words: &str) -> Call {
     let (id, object) = first(words);
-    let answer = Answer::Object(number(object));
+    let answer = Answer::Object(count(object));
     Call::Respond(key, id_of(id), answer)
 }
 
@@ -118,20 +105,14 @@ fn gives(key: ChannelKey, words: &str) -> Call {
 fn invokes(alloc: Global, key: ChannelKey, words: &str) -> Result<Call, Fail> {
     let (handle, method) = first(words);
     let method = Text::from_str(alloc, method)?;
-    Ok(Call::Invoke(
-        key,
-        number(handle),
-        method,
-        Arguments::Absent,
-        Expect::Plain,
-    ))
+    Ok(Call::Invoke(key, count(handle), method, Arguments::Absent, Expect::Plain))
 }
 
 /// The words are `own` or `peer`, and the number of a handle.
 fn releases(key: ChannelKey, words: &str) -> Call {
     let (owner, word) = first(words);
     let handle = HandleKey {
-        number: number(word),
+        number: count(word),
         own: owner == "own",
     };
     Call::Release(key, handle)
@@ -146,7 +127,7 @@ fn call_of(alloc: Global, key: ChannelKey, name: &str, words: &str) -> Result<Ca
         "gives" => Ok(gives(key, words)),
         "invokes" => invokes(alloc, key, words),
         "releases" => Ok(releases(key, words)),
-        "outcome" => Ok(Call::Outcome(key, number(words))),
+        "outcome" => Ok(Call::Outcome(key, count(words))),
         _ => Ok(Call::Mux(mux_call_of(alloc, key, name, words)?)),
     }
 }

@@ -1,9 +1,10 @@
 //! The bytes of the two streams: in which frames they go, in which pieces they come, and what stored steps leave in flight.
 
 use crate::channels::CREDIT;
-use crate::rows::{LIVE, behind, emits, flight, happens, lives, make, parted, world};
-use crate::steps::{ALL, fill, first, side_of, step_of};
+use crate::rows::{LIVE, behind, emits, flight, happens, lives, make, world};
+use crate::steps::{ALL, fill, side_of, step_of};
 use duo_world::{Duo, Side, Step, StepList};
+use row_text::{first, parted};
 use std::alloc::Global;
 use std::process::Abort;
 use std::test::Fail;

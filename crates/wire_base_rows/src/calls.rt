@@ -1,7 +1,8 @@
 //! Calls on a source or a sink, of which a row has the answer.
 
 use crate::rows::is_told;
-use crate::words::{first, of_count, parted, word};
+use crate::words::of_count;
+use row_text::{first, parted, word};
 use std::alloc::Global;
 use std::process::Abort;
 use std::test::Fail;

@@ -4,7 +4,7 @@ use crate::names::of_name;
 use crate::text_calls::of_call;
 use crate::tokens::{of_front, of_lengths, of_number};
 use crate::values::{of_last, with_copy};
-use crate::words::{bytes, parted};
+use row_text::{bytes, parted};
 use std::alloc::Global;
 use std::process::Abort;
 use std::test::Fail;

@@ -2,13 +2,14 @@
 
 use crate::calls::{are_same, gives, takes};
 use crate::text_calls::blob;
+use row_text::count;
 use std::alloc::Global;
 use std::process::Abort;
 use std::test::Fail;
 use wire_base::{Calls, MemSink, MemSource};
 
 fn push_call(calls: &mut Calls, word: &str) -> Result<(), Fail> {
-    calls.push(word.parse::<u64>().unwrap_or(0))?;
+    calls.push(count(word))?;
     Ok(())
 }
 

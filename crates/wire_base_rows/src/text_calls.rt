@@ -1,7 +1,7 @@
 //! Texts, ids and bytes, made and copied, and what is told of them.
 
 use crate::values::{of_copied_items, of_copied_pairs};
-use crate::words::{bytes, first, of_bytes, word};
+use row_text::{bytes, first, hex_of, word};
 use std::alloc::Global;
 use std::test::Fail;
 use wire_base::{Blob, Id, Text, TextFault};
@@ -96,7 +96,7 @@ fn copied_blob(alloc: Global, blob: &Blob) -> Result<Blob, Fail> {
 }
 
 fn of_blob(alloc: Global, blob: &Blob) -> Result<String, Fail> {
-    of_bytes(alloc, blob.as_bytes())
+    hex_of(alloc, blob.as_bytes())
 }
 
 fn of_copied_blob(alloc: Global, words: &str) -> Result<String, Fail> {

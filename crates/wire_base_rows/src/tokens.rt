@@ -1,6 +1,7 @@
 //! Heads and numbers, read and written.
 
-use crate::words::{first, number, of_bytes, size, word};
+use crate::words::wide;
+use row_text::{first, hex_of, size, word};
 use std::alloc::Global;
 use std::test::Fail;
 use wire_base::{
@@ -69,14 +70,14 @@ fn push_number(out: &mut Vec<u8>, number: i128) -> Result<(), Fail> {
 
 fn spelled(alloc: Global, word: &str) -> Result<Vec<u8>, Fail> {
     let mut out = Vec::new(alloc);
-    push_number(&mut out, number(word))?;
+    push_number(&mut out, wide(word))?;
     Ok(out)
 }
 
 /// The bytes that are appended for a number.
 pub fn of_number(alloc: Global, word: &str) -> Result<String, Fail> {
     let out = spelled(alloc, word)?;
-    of_bytes(alloc, out.as_slice())
+    hex_of(alloc, out.as_slice())
 }
 
 fn push_str(out: &mut Vec<u8>, length: u32) -> Result<(), Fail> {
@@ -121,5 +122,5 @@ fn written(alloc: Global, words: &str) -> Result<Vec<u8>, Fail> {
 /// The bytes that are appended for heads of one sort and these lengths.
 pub fn of_lengths(alloc: Global, words: &str) -> Result<String, Fail> {
     let out = written(alloc, words)?;
-    of_bytes(alloc, out.as_slice())
+    hex_of(alloc, out.as_slice())
 }

@@ -1,7 +1,8 @@
 //! Values that words stand for, and their copies.
 
 use crate::text_calls::{blob, text};
-use crate::words::{first, of_count, word};
+use crate::words::of_count;
+use row_text::{first, number, word};
 use std::alloc::Global;
 use std::test::Fail;
 use wire_base::{Datum, DatumList, Node, PairList, Whole};
@@ -11,7 +12,7 @@ fn datum(node: Node) -> Datum {
 }
 
 fn whole(word: &str) -> Datum {
-    datum(Node::Whole(Whole::from_i64(word.parse::<i64>().unwrap_or(0))))
+    datum(Node::Whole(Whole::from_i64(number(word))))
 }
 
 /// A flag, or a number.
