@@ -1,7 +1,7 @@
 //! Values with their spellings in MessagePack, and bytes that are refused, as tables. Only tests and their helpers live here.
 //!
 //! `spellings` and `limits` hold the tables, `rows` reads them. `values` makes values, writes them and tells what decoding
-//! answers, and `words` reads bytes.
+//! answers.
 #![tactic(auto)]
 
 #[cfg(test)]
@@ -12,5 +12,3 @@ mod rows;
 mod spellings;
 #[cfg(test)]
 mod values;
-#[cfg(test)]
-mod words;

@@ -1,7 +1,7 @@
 //! Rows of values and bytes, of which each says what is claimed of all in its table.
 
 use crate::values::{append, encoded, respelled, told, value};
-use crate::words::{bytes, parted};
+use row_text::{bytes, parted};
 use std::alloc::Global;
 use std::process::Abort;
 use std::test::Fail;

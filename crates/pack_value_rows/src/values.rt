@@ -1,7 +1,7 @@
 //! The values that words stand for, how values are written, and what is told of bytes.
 
-use crate::words::size;
 use pack_value::{EncodeFault, Step, decode, encode};
+use row_text::size;
 use std::alloc::Global;
 use std::test::Fail;
 use wire_base::{Blob, Datum, DatumList, Node, PairList, Place, Reason, Text, Whole};
@@ -45,7 +45,7 @@ fn array_of(alloc: Global, value: Datum) -> Result<Datum, Fail> {
 
 fn bytes_or_whole(alloc: Global, word: &str) -> Result<Datum, Fail> {
     match word.strip_prefix("zeros") {
-        Some(count) => zeros(alloc, size(count)),
+        Some(count) => zeros(alloc, size(count) as usize),
         None => whole(word),
     }
 }
@@ -69,7 +69,7 @@ fn nested(alloc: Global, word: &str, levels: usize) -> Result<Datum, Fail> {
 /// around it.
 pub fn value(alloc: Global, words: &str) -> Result<Datum, Fail> {
     let (word, levels) = words.split_once(" in ").unwrap_or((words, "0"));
-    nested(alloc, word, size(levels))
+    nested(alloc, word, size(levels) as usize)
 }
 
 /// The value is written behind what stands there.

@@ -2,7 +2,7 @@
 //! helpers live here.
 //!
 //! `heads`, `texts`, `streams` and `standard` hold the tables. `rows` reads the first two, by `tokens`, `text_calls`, `values`
-//! and `names`, and `calls` reads those of sources and sinks. `words` reads bytes and numbers.
+//! and `names`, and `calls` reads those of sources and sinks. `words` has the numbers that `row_text` hasn't.
 #![tactic(auto)]
 
 #[cfg(test)]

@@ -1,4 +1,4 @@
-//! Numbers of rows.
+//! The numbers that `row_text` hasn't.
 
 use std::alloc::Global;
 use std::test::Fail;
@@ -8,7 +8,7 @@ pub fn of_count(alloc: Global, count: usize) -> Result<String, Fail> {
     Ok(format!(in alloc; "{count}")?)
 }
 
-/// The number that a word writes, also one below or above those of 64 bits, and 0 for any other word.
+/// A number that may not fit in 64 bits, and 0 for any other word.
 pub fn wide(word: &str) -> i128 {
     word.parse::<i128>().unwrap_or(0)
 }
